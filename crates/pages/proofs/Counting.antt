@@ -1,0 +1,242 @@
+-- The 341 pages suffice, and so does level 4.
+use Prim.Native.Nat.{ℕ, zero, suc, _+_, _*_, _≤_, _<_}
+use native.Mathlib.Omega.{arith}
+use native.Mathlib.Decide.{ℕ-discrete}
+use mathlib.Core.Path.{_≡_, refl, sym, ap, _∙_}
+use mathlib.Core.Logic.{_≢_}
+use mathlib.Core.Bool.{Bool, true, false, cond}
+use mathlib.Core.List.{List, [], _∷_}
+use lib.ListN.{length}
+use lib.Dec.{T, eqb}
+use Rattle.pages.specs.declared.Entry.{Entry}
+use Rattle.pages.specs.Sizes.{PIECES, PAGES}
+use Rattle.pages.specs.Lists.{one, sum, sumBelow}
+use Rattle.pages.specs.Rectangles.{valid, bounds}
+use Rattle.pages.specs.Layout.{Page, Table, noPage, page}
+use Rattle.pages.specs.Sound.{leaf, childEntries, pieceEntries, is, named, stored, pieces, fewest}
+use Rattle.pages.proofs.Lists.{Every, at-every, every-map, sum-same, sum-length, sum-below}
+use Rattle.pages.proofs.Below.{eqb-yes, eqb-no, below-same, below-le, below-add, below-const, below-times, below-swap, below-one, sum-places, below-is, sum-nothing, below-at}
+use Rattle.pages.proofs.Facts.{Facts}
+
+pub is-not : (q : ℕ) (e : Entry) → e .r ≢ q → is q e ≡ 0
+is-not q e n = rw (eqb-no (e .r) q n)
+
+-- what soundness says, without the limits on k and the levels
+pub record Shape (t : Table) : Type 0 where
+  pub top : t .root < length (t .pages)
+  pub levels : (p : ℕ) → p < length (t .pages) → page t p .level ≤ 5
+  pub lower : (p : ℕ) → p < length (t .pages) → Every (λ e. page t p .level ≡ suc (page t (e .r) .level)) (childEntries (page t p))
+  pub once : (q : ℕ) → q < length (t .pages) → named t q ≡ cond (eqb q (t .root)) 0 1
+  pub inside : (p : ℕ) → p < length (t .pages) → Every (λ e. e .r < length (t .pages)) (childEntries (page t p))
+  pub enough : (p : ℕ) → p < length (t .pages) → fewest t p ≤ length (page t p .entries)
+  pub eight : (p : ℕ) → p < length (t .pages) → length (page t p .entries) ≤ 8
+  pub exact : (p : ℕ) → p < length (t .pages) → Every (λ e. e .rect ≡ bounds (page t (e .r) .entries)) (childEntries (page t p))
+  pub valids : (p : ℕ) → p < length (t .pages) → Every (λ e. T (valid (e .rect))) (pieceEntries (page t p))
+  pub numbers : (p : ℕ) → p < length (t .pages) → Every (λ e. e .r < PIECES) (pieceEntries (page t p))
+  pub distinct : (c : ℕ) → c < PIECES → stored t c ≤ 1
+  pub counted : t .count ≡ pieces t
+
+-- the entries of the pages at a level
+abbrev pub heldAt : ℕ → Page → ℕ
+heldAt i p = cond (eqb (p .level) i) (length (p .entries)) 0
+
+abbrev pub held : Table → ℕ → ℕ
+held t i = sum (heldAt i) (t .pages)
+
+-- the pages at a level, without the root
+abbrev pub other : Table → ℕ → ℕ → ℕ
+other t i q = cond (eqb q (t .root)) 0 (one (eqb (page t q .level) i))
+
+abbrev pub others : Table → ℕ → ℕ
+others t i = sumBelow (length (t .pages)) (other t i)
+
+above-children : (p : Page) (i : ℕ) → p .level ≡ suc i → childEntries p ≡ p .entries
+above-children p i e = rw (eqb-no (p .level) 0 (omega arith))
+
+sum-children : (p : Page) (q i : ℕ) → p .level ≡ suc i → sum (is q) (childEntries p) ≡ sum (is q) (p .entries)
+sum-children p q i e = ap (sum (is q)) (above-children p i e)
+
+module _ (t : Table) (s : Shape t) where
+  stray : (p q : ℕ) → p < length (t .pages) → page t p .level ≢ suc (page t q .level) → sum (is q) (childEntries (page t p)) ≡ 0
+  stray p q l n = sum-nothing (is q) (childEntries (page t p))
+      (every-map (λ e. page t p .level ≡ suc (page t (e .r) .level)) (λ e. is q e ≡ 0)
+      (λ e h. is-not q e (λ r. n (h ∙ ap (λ x. suc (page t x .level)) r))) (childEntries (page t p)) (s .lower p l))
+
+  term : (i p q : ℕ) → p < length (t .pages)
+      → cond (eqb (page t p .level) (suc i)) (sum (is q) (page t p .entries)) 0 ≡ cond (eqb (page t q .level) i) (sum (is q) (childEntries (page t p))) 0
+  term i p q l = go (ℕ-discrete (page t p .level) (suc i)) (ℕ-discrete (page t q .level) i)
+    where
+      go : Dec (page t p .level ≡ suc i) → Dec (page t q .level ≡ i)
+          → cond (eqb (page t p .level) (suc i)) (sum (is q) (page t p .entries)) 0 ≡ cond (eqb (page t q .level) i) (sum (is q) (childEntries (page t p))) 0
+      go (yes a) (yes b) = rw (eqb-yes _ _ a, eqb-yes _ _ b) (sym (sum-children (page t p) q i a))
+      go (yes a) (no b) = rw (eqb-yes _ _ a, eqb-no _ _ b) (sym (sum-children (page t p) q i a) ∙ stray p q l (omega arith))
+      go (no a) (yes b) = rw (eqb-no _ _ a, eqb-yes _ _ b) (sym (stray p q l (omega arith)))
+      go (no a) (no b) = rw (eqb-no _ _ a, eqb-no _ _ b)
+
+  sum-out : (b : Bool) (f : Page → ℕ) (ps : List Page) → sum (λ p. cond b (f p) 0) ps ≡ cond b (sum f ps) 0
+  sum-out true f ps = refl
+  sum-out false f [] = refl
+  sum-out false f (p ∷ ps) = omega (arith, sum-out false f ps)
+
+  cond-cond : (a b : Bool) → cond a (cond b 0 1) 0 ≡ cond b 0 (one a)
+  cond-cond true true = refl
+  cond-cond true false = refl
+  cond-cond false true = refl
+  cond-cond false false = refl
+
+  -- the entries of level i + 1 that name q
+  pub named-from : (i q : ℕ) → q < length (t .pages) → sum (λ p. cond (eqb (p .level) (suc i)) (sum (is q) (p .entries)) 0) (t .pages) ≡ other t i q
+  named-from i q l =
+      sum-same _ (λ p. cond (eqb (page t q .level) i) (sum (is q) (childEntries p)) 0) (t .pages)
+      (at-every (λ p. cond (eqb (p .level) (suc i)) (sum (is q) (p .entries)) 0 ≡ cond (eqb (page t q .level) i) (sum (is q) (childEntries p)) 0) (t .pages) noPage (λ p k. term i p q k))
+      ∙ (sum-out (eqb (page t q .level) i) (λ p. sum (is q) (childEntries p)) (t .pages)
+      ∙ (ap (λ n. cond (eqb (page t q .level) i) n 0) (s .once q l) ∙ cond-cond (eqb (page t q .level) i) (eqb q (t .root))))
+
+  -- the page's entries, counted by what they name
+  named-by : (i p : ℕ) → p < length (t .pages)
+      → sumBelow (length (t .pages)) (λ q. cond (eqb (page t p .level) (suc i)) (sum (is q) (page t p .entries)) 0) ≡ heldAt (suc i) (page t p)
+  named-by i p l = go (ℕ-discrete (page t p .level) (suc i))
+    where
+      go : Dec (page t p .level ≡ suc i) → sumBelow (length (t .pages)) (λ q. cond (eqb (page t p .level) (suc i)) (sum (is q) (page t p .entries)) 0) ≡ heldAt (suc i) (page t p)
+      go (yes a) =
+          let ins : Every (λ e. e .r < length (t .pages)) (page t p .entries) = rw (above-children (page t p) i a) at (s .inside p l) in
+          rw (eqb-yes _ _ a) (sum-below is (length (t .pages)) (page t p .entries)
+          ∙ (sum-same _ (λ e. 1) (page t p .entries) (every-map (λ e. e .r < length (t .pages)) _ (λ e h. below-is (length (t .pages)) (e .r) h) (page t p .entries) ins)
+          ∙ sum-length (page t p .entries)))
+      go (no a) = rw (eqb-no _ _ a) (omega (arith, below-const (length (t .pages)) 0))
+
+  -- the entries of a level are the pages of the level below, without the root
+  pub others-held : (i : ℕ) → others t i ≡ held t (suc i)
+  others-held i =
+      below-same (length (t .pages)) (other t i) (λ q. sum (λ p. cond (eqb (p .level) (suc i)) (sum (is q) (p .entries)) 0) (t .pages)) (λ q l. sym (named-from i q l))
+      ∙ (sum-below (λ q p. cond (eqb (p .level) (suc i)) (sum (is q) (p .entries)) 0) (length (t .pages)) (t .pages)
+      ∙ sum-same _ (heldAt (suc i)) (t .pages)
+      (at-every (λ p. sumBelow (length (t .pages)) (λ q. cond (eqb (p .level) (suc i)) (sum (is q) (p .entries)) 0) ≡ heldAt (suc i) p) (t .pages) noPage (named-by i)))
+
+  abbrev least : ℕ → ℕ → ℕ
+  least i q = cond (eqb (page t q .level) i) (cond (leaf (page t q)) 0 2) 0
+
+  low : (r l : Bool) (c n : ℕ) → cond r c 4 ≤ n → 4 * cond r 0 (one l) + cond r (cond l c 0) 0 ≤ cond l n 0
+  low true true c n h = omega arith
+  low true false c n h = omega arith
+  low false true c n h = omega arith
+  low false false c n h = omega arith
+
+  pub others-least : (i : ℕ) → 4 * others t i + least i (t .root) ≤ held t i
+  unfolding fewest
+  others-least i =
+      let k : ℕ = length (t .pages) in
+      let a = below-le k (λ q. 4 * other t i q + cond (eqb q (t .root)) (least i q) 0) (λ q. heldAt i (page t q))
+      (λ q l. low (eqb q (t .root)) (eqb (page t q .level) i) (cond (leaf (page t q)) 0 2) (length (page t q .entries)) (s .enough q l)) in
+      let b = below-add k (λ q. 4 * other t i q) (λ q. cond (eqb q (t .root)) (least i q) 0) in
+      let c = below-times k 4 (other t i) in
+      let d = below-one k (t .root) (least i) (s .top) in
+      let e = sum-places (heldAt i) (t .pages) noPage in
+      omega (arith, a, b, c, d, e)
+
+  high : (r l : Bool) (n : ℕ) → n ≤ 8 → cond l n 0 ≤ 8 * cond r 0 (one l) + cond r (cond l 8 0) 0
+  high true true n h = omega arith
+  high true false n h = omega arith
+  high false true n h = omega arith
+  high false false n h = omega arith
+
+  pub others-most : (i : ℕ) → held t i ≤ 8 * others t i + cond (eqb (page t (t .root) .level) i) 8 0
+  others-most i =
+      let k : ℕ = length (t .pages) in
+      let g : ℕ → ℕ = λ q. cond (eqb (page t q .level) i) 8 0 in
+      let a = below-le k (λ q. heldAt i (page t q)) (λ q. 8 * other t i q + cond (eqb q (t .root)) (g q) 0)
+      (λ q l. high (eqb q (t .root)) (eqb (page t q .level) i) (length (page t q .entries)) (s .eight q l)) in
+      let b = below-add k (λ q. 8 * other t i q) (λ q. cond (eqb q (t .root)) (g q) 0) in
+      let c = below-times k 8 (other t i) in
+      let d = below-one k (t .root) g (s .top) in
+      let e = sum-places (heldAt i) (t .pages) noPage in
+      omega (arith, a, b, c, d, e)
+
+  -- every page but the root is at one of the levels
+  pub others-all : length (t .pages) ≡ sumBelow 6 (others t) + 1
+  others-all =
+      let k : ℕ = length (t .pages) in
+      let a = below-swap 6 k (λ i q. other t i q) in
+      let b = below-add k (λ q. sumBelow 6 (λ i. other t i q)) (λ q. cond (eqb q (t .root)) 1 0) in
+      let c = below-one k (t .root) (λ q. 1) (s .top) in
+      let d = below-same k (λ q. sumBelow 6 (λ i. other t i q) + cond (eqb q (t .root)) 1 0) (λ q. 1)
+      (λ q l. each (eqb q (t .root)) (page t q .level) (below-is 6 (page t q .level) (omega (arith, s .levels q l)))) in
+      let e = below-const k 1 in
+      omega (arith, a, b, c, d, e)
+    where
+      each : (r : Bool) (l : ℕ) → sumBelow 6 (λ i. one (eqb l i)) ≡ 1 → sumBelow 6 (λ i. cond r 0 (one (eqb l i))) + cond r 1 0 ≡ 1
+      each true l h = refl
+      each false l h = omega (arith, h)
+
+  -- no page is at level 6
+  pub none-six : held t 6 ≡ 0
+  none-six = sum-nothing (heldAt 6) (t .pages) (at-every (λ p. heldAt 6 p ≡ 0) (t .pages) noPage (λ p l. rw (eqb-no (page t p .level) 6 (omega (arith, s .levels p l)))))
+
+  length-pieces : (p : Page) → length (pieceEntries p) ≡ heldAt 0 p
+  length-pieces p = go (leaf p)
+    where
+      go : (b : Bool) → length (cond b (p .entries) []) ≡ cond b (length (p .entries)) 0
+      go true = refl
+      go false = refl
+
+  -- at most 1,024 pieces
+  pub pieces-held : pieces t ≡ held t 0
+  pieces-held = sum-same _ (heldAt 0) (t .pages) (at-every (λ p. length (pieceEntries p) ≡ heldAt 0 p) (t .pages) noPage (λ p l. length-pieces (page t p)))
+
+  few-below : (n : ℕ) → ((c : ℕ) → c < n → stored t c ≤ 1) → ((p : ℕ) → p < length (t .pages) → Every (λ e. e .r < n) (pieceEntries (page t p))) → pieces t ≤ n
+  few-below n f g =
+      let a = below-le n (stored t) (λ c. 1) f in
+      let b = below-const n 1 in
+      let c = sum-below (λ c p. sum (is c) (pieceEntries p)) n (t .pages) in
+      let d = sum-same (λ p. sumBelow n (λ c. sum (is c) (pieceEntries p))) (λ p. length (pieceEntries p)) (t .pages)
+      (at-every (λ p. sumBelow n (λ c. sum (is c) (pieceEntries p)) ≡ length (pieceEntries p)) (t .pages) noPage
+      (λ p l. sum-below is n (pieceEntries (page t p)) ∙ (sum-same _ (λ e. 1) (pieceEntries (page t p))
+      (every-map (λ e. e .r < n) _ (λ e h. below-is n (e .r) h) (pieceEntries (page t p)) (g p l)) ∙ sum-length (pieceEntries (page t p))))) in
+      omega (arith, a, b, c, d)
+
+  pub pieces-few : pieces t ≤ PIECES
+  pieces-few = few-below PIECES (s .distinct) (λ p l. every-map (λ e. e .r < PIECES) (λ e. e .r < PIECES) (λ e h. omega arith) (pieceEntries (page t p)) (s .numbers p l))
+
+-- the arithmetic of it: h is the level of the root, N the pages but the root and E the entries, by level
+conclude : (h k : ℕ) → h ≤ 5 → (N E : ℕ → ℕ) → ((i : ℕ) → N i ≡ E (suc i)) → ((i : ℕ) → 4 * N i + cond (eqb h i) (cond (eqb h 0) 0 2) 0 ≤ E i)
+    → ((i : ℕ) → E i ≤ 8 * N i + cond (eqb h i) 8 0) → E 0 ≤ PIECES → E 6 ≡ 0 → k ≡ sumBelow 6 N + 1 → (k ≤ PAGES) × (h ≤ 4)
+conclude zero k u N E a b m c d e = omega (arith, a 0, a 1, a 2, a 3, a 4, a 5, b 0, b 1, b 2, b 3, b 4, b 5, m 5)
+conclude (suc zero) k u N E a b m c d e = omega (arith, a 0, a 1, a 2, a 3, a 4, a 5, b 0, b 1, b 2, b 3, b 4, b 5, m 5)
+conclude (suc (suc zero)) k u N E a b m c d e = omega (arith, a 0, a 1, a 2, a 3, a 4, a 5, b 0, b 1, b 2, b 3, b 4, b 5, m 5)
+conclude (suc (suc (suc zero))) k u N E a b m c d e = omega (arith, a 0, a 1, a 2, a 3, a 4, a 5, b 0, b 1, b 2, b 3, b 4, b 5, m 5)
+conclude (suc (suc (suc (suc zero)))) k u N E a b m c d e = omega (arith, a 0, a 1, a 2, a 3, a 4, a 5, b 0, b 1, b 2, b 3, b 4, b 5, m 5)
+conclude (suc (suc (suc (suc (suc zero))))) k u N E a b m c d e = omega (arith, a 0, a 1, a 2, a 3, a 4, a 5, b 0, b 1, b 2, b 3, b 4, b 5, m 5)
+conclude (suc (suc (suc (suc (suc (suc h)))))) k u N E a b m c d e = omega arith
+
+-- the PAGES pages, and the level 4, suffice
+pub suffice : (t : Table) → Shape t → (length (t .pages) ≤ PAGES) × (page t (t .root) .level ≤ 4)
+suffice t s = conclude (page t (t .root) .level) (length (t .pages)) (s .levels (t .root) (s .top)) (others t) (held t) (others-held t s) (others-least t s) (others-most t s)
+    (omega (arith, pieces-few t s, pieces-held t s)) (none-six t s) (others-all t s)
+
+four : (t : Table) → Shape t → (p : ℕ) → p < length (t .pages) → page t p .level ≤ 4
+four t s p l = go (ℕ-discrete p (t .root)) (ℕ-discrete (page t p .level) 5)
+  where
+    go : Dec (p ≡ t .root) → Dec (page t p .level ≡ 5) → page t p .level ≤ 4
+    go (yes e) d = rw e (suffice t s .1)
+    go (no e) (yes d) =
+        let a : other t 5 p ≡ 1 = rw (eqb-no p (t .root) e, eqb-yes (page t p .level) 5 d) in
+        absurd (omega (arith, a, below-at (length (t .pages)) (other t 5) p l, others-held t s 5, none-six t s))
+    go (no e) (no d) = omega (arith, s .levels p l)
+
+pub shape-facts : (t : Table) → Shape t → Facts t
+shape-facts t s = record {
+  some = omega (arith, s .top);
+  most = suffice t s .0;
+  top = s .top;
+  levels = four t s;
+  lower = s .lower;
+  once = s .once;
+  inside = s .inside;
+  enough = s .enough;
+  eight = s .eight;
+  exact = s .exact;
+  valids = s .valids;
+  numbers = s .numbers;
+  distinct = s .distinct;
+  counted = s .counted;
+}

@@ -1,0 +1,15 @@
+pub mod Lists
+pub mod Below
+pub mod Facts
+pub mod Round
+pub mod Whole
+pub mod Cells
+pub mod Over
+pub mod Counting
+pub mod Entries
+pub mod Walk
+pub mod Visit
+pub mod Zeros
+pub mod Bounds
+pub mod EmptyTable
+pub mod Examples

@@ -1,0 +1,9 @@
+-- The definitions that the contracts of `pages` cite.
+pub mod Sizes
+pub mod Lists
+pub mod Rectangles
+pub mod Layout
+pub mod Sound
+pub mod Refusals
+pub mod Calls
+pub mod Readers
