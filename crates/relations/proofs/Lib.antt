@@ -1,0 +1,14 @@
+-- The laws. Callers cite `Sides` (codes), `Turned`, `Quarter` and `Pages` (the quarter-unit rule, the page and leaf tests),
+-- `Answer` (refusals and rows of an accepted query).
+pub mod Tests
+pub mod Bits
+pub mod Filled
+pub mod Sides
+pub mod Zones
+pub mod Turned
+pub mod Quarter
+pub mod Tables
+pub mod Rows
+pub mod Answer
+pub mod Pages
+pub mod Examples

@@ -1,0 +1,25 @@
+-- Two numbers of thirteen bits share one exactly when their `and` is not zero.
+-- Assumes nothing.
+use borrow.Author.Needs.{needs}
+use Rattle.relations.proofs.Pages.{tested}
+use Rattle.relations.proofs.page_test.Statement.{statement}
+use Rattle.relations.proofs.page_test.Tie as tie
+
+sub-result : tie.Need-sub-result
+sub-result c = search needs
+
+mul-result : tie.Need-mul-result
+mul-result c = search needs
+
+element-copy-out-result : tie.Need-element-copy-out-result
+element-copy-out-result c = search needs
+
+node-mask-requires : tie.Need-node-mask-requires
+node-mask-requires c κs = search needs
+
+returns : tie.Need-returns
+returns c = tested _ _ _ _ (c .node-mask .ensures)
+
+pub page-test-spec : {M : Type 1} → statement M
+page-test-spec =
+    tie.close (tie.spec sub-result mul-result element-copy-out-result node-mask-requires returns)

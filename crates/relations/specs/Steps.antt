@@ -1,0 +1,50 @@
+-- What the inner functions are held to: the side of a number, rows of one relation and of one clause, and the row sets joined for a page's code.
+-- Assumes nothing.
+use mathlib.Core.Bool.{Bool, cond, _&&_}
+use mathlib.Core.List.{List}
+use Prim.Native.Nat.{ℕ, zero, suc, _+_, _-_}
+use lib.Bits.{bitAnd, bitOr}
+use lib.Dec.{leb, ltb}
+use lib.ListN.{getD}
+use Rattle.relations.specs.Sets.{digit, bit, packed, someBelow, listed}
+use Rattle.relations.specs.Axis.{CODES}
+use Rattle.relations.specs.Relation.{inRelation}
+use Rattle.relations.specs.Query.{named}
+use Rattle.relations.specs.Nodes.{inside}
+
+-- where a lies to b: 0 above it, 1 at it, 2 below it
+unfoldable pub sideOf : ℕ → ℕ → ℕ
+sideOf a b = digit (leb a b) + digit (ltb a b)
+
+-- the codes j of relation t beside code i, as a number
+unfoldable pub relationRow : ℕ → ℕ → ℕ
+relationRow t i = packed (λ k. inRelation t i (suc k)) CODES
+
+-- the codes j that a clause names beside code i, as a number
+unfoldable pub namedRow : ℕ → ℕ → ℕ
+namedRow clause i = packed (λ k. named clause i (suc k)) CODES
+
+-- thirteen rows with those of relation t added
+unfoldable pub withRelation : List ℕ → ℕ → List ℕ
+withRelation rows t = listed (λ h. bitOr (getD rows h 0) (relationRow t (suc h))) CODES
+
+-- thirteen rows cut down to those of a clause
+unfoldable pub cutTo : List ℕ → ℕ → List ℕ
+cutTo rows clause = listed (λ h. bitAnd (getD rows h 0) (namedRow clause (suc h))) CODES
+
+-- the union of the first n rows whose code can stand inside a page of code c
+unfoldable pub joinedTo : List ℕ → ℕ → ℕ → ℕ
+joinedTo rows c zero = 0
+joinedTo rows c (suc n) = bitOr (joinedTo rows c n) (cond (inside c (suc n)) (getD rows n 0) 0)
+
+-- what may stand below a page of code c on y, at place c - 1
+unfoldable pub joinedOf : List ℕ → List ℕ
+joinedOf rows = listed (λ c. joinedTo rows (suc c) CODES) CODES
+
+-- the page test on joined rows: some code of the row of cy is in the set of cx
+unfoldable pub pageTest : List ℕ → ℕ → ℕ → Bool
+pageTest joined cy cx = someBelow (λ k. inside cx (suc k) && bit (getD joined (cy - 1) 0) k) CODES
+
+-- the leaf test on row sets: (i, j) is in them
+unfoldable pub rowsHave : List ℕ → ℕ → ℕ → Bool
+rowsHave rows i j = bit (getD rows (i - 1) 0) (j - 1)
