@@ -1,0 +1,98 @@
+//! The C interface of the finder, as `finder.h` declares it.
+//!
+//! No pointer may be null, also for a length of 0; each must be aligned for
+//! its type. The slices are lent for the time of the call.
+
+/// What `finder_check` returns.
+#[repr(C)]
+#[derive(Clone, Copy, Debug, PartialEq, Eq)]
+pub struct Checked {
+    /// Zero, or the number of the refusal.
+    pub refusal: u32,
+    /// The piece count.
+    pub pieces: u32,
+}
+
+/// What `finder_query` returns.
+#[repr(C)]
+#[derive(Clone, Copy, Debug, PartialEq, Eq)]
+pub struct Answer {
+    /// Zero, or the number of the refusal.
+    pub refusal: u32,
+    /// How many piece numbers were written.
+    pub hits: u32,
+    /// How many pages were opened.
+    pub opened: u32,
+}
+
+/// What `finder_opened_pages` returns.
+#[repr(C)]
+#[derive(Clone, Copy, Debug, PartialEq, Eq)]
+pub struct Opened {
+    /// Zero, or the number of the refusal.
+    pub refusal: u32,
+    /// How many page numbers were written.
+    pub count: u32,
+}
+
+/// What `finder_admitted_set` returns.
+#[repr(C)]
+#[derive(Clone, Copy, Debug, PartialEq, Eq)]
+pub struct AdmittedSet {
+    /// Zero, or the number of the refusal.
+    pub refusal: u32,
+    /// Row set i at place i - 1.
+    pub rows: [u16; 13],
+    /// How many of the 169 configurations are admitted.
+    pub count: u32,
+}
+
+extern "C" {
+    /// Makes the table empty.
+    pub fn finder_empty(table: *mut u32, table_len: usize) -> u32;
+
+    /// Tests whether the table is sound, and counts its pieces.
+    pub fn finder_check(table: *const u32, table_len: usize) -> Checked;
+
+    /// Places a piece.
+    pub fn finder_place(
+        table: *mut u32,
+        table_len: usize,
+        number: u32,
+        x1: u32,
+        y1: u32,
+        x2: u32,
+        y2: u32,
+    ) -> u32;
+
+    /// Lists the pieces that a wish admits.
+    pub fn finder_query(
+        table: *const u32,
+        table_len: usize,
+        x1: u32,
+        y1: u32,
+        x2: u32,
+        y2: u32,
+        clauses: *const u64,
+        clause_count: usize,
+        answer: *mut u16,
+        answer_len: usize,
+    ) -> Answer;
+
+    /// Lists the pages that a query opens.
+    pub fn finder_opened_pages(
+        table: *const u32,
+        table_len: usize,
+        x1: u32,
+        y1: u32,
+        x2: u32,
+        y2: u32,
+        clauses: *const u64,
+        clause_count: usize,
+        answer: *mut u16,
+        answer_len: usize,
+    ) -> Opened;
+
+    /// Gives the configurations that clauses admit.
+    pub fn finder_admitted_set(clauses: *const u64, clause_count: usize) -> AdmittedSet;
+}

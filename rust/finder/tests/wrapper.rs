@@ -1,0 +1,116 @@
+//! The wrapper's own names and numbers.
+
+use finder::relation::{one_of, Relation, ALL};
+use finder::{admitted, check, empty, front, opened_pages, place, query, Rect, Refusal};
+use finder::{EDGE, PAGES, PIECES, TABLE_WORDS};
+
+const EQUAL: u64 = one_of(&[finder::relation::EQUAL]);
+
+fn nine() -> Vec<u32> {
+    let mut table = vec![0; TABLE_WORDS];
+    empty(&mut table).unwrap();
+    for c in 0..9 {
+        place(&mut table, c, Rect::new(10 * c, 0, 10 * c + 5, 5)).unwrap();
+    }
+    table
+}
+
+#[test]
+fn sizes_are_those_of_the_paper() {
+    assert_eq!(TABLE_WORDS, model::TABLE_WORDS);
+    assert_eq!(PAGES, model::PAGES);
+    assert_eq!(PIECES, model::PIECES);
+    assert_eq!(EDGE, model::sizes::EDGE);
+    assert_eq!(finder::CLAUSES, model::sizes::CLAUSES);
+}
+
+#[test]
+fn refusals_have_their_numbers() {
+    for (place, refusal) in Refusal::ALL.into_iter().enumerate() {
+        assert_eq!(refusal.number() as usize, place + 1);
+        assert_eq!(Refusal::from_number(refusal.number()), Some(refusal));
+        assert!(refusal.to_string().contains(&refusal.number().to_string()));
+    }
+}
+
+#[test]
+fn relations_have_their_numbers() {
+    for (number, relation) in (0..40).zip(ALL) {
+        assert_eq!(relation.number(), number);
+        assert_eq!(Relation::from_number(number), Some(relation));
+        assert_eq!(one_of(&[relation]), 1 << number);
+    }
+}
+
+/// The names of corners: where the only configuration of a strong one lies.
+#[test]
+fn corners_lie_where_they_say() {
+    use finder::relation::*;
+    let corners = [
+        (STRONG_CORNER_NORTH, Rect::new(300, 300, 310, 310)),
+        (STRONG_CORNER_EAST, Rect::new(300, 10, 310, 20)),
+        (STRONG_CORNER_SOUTH, Rect::new(10, 10, 20, 20)),
+        (STRONG_CORNER_WEST, Rect::new(10, 300, 20, 310)),
+    ];
+    let mut table = vec![0; TABLE_WORDS];
+    empty(&mut table).unwrap();
+    for (number, (_, rect)) in (0..).zip(corners) {
+        place(&mut table, number, rect).unwrap();
+    }
+    for (number, (corner, _)) in (0..).zip(corners) {
+        let mut answer = [0; PIECES];
+        let reference = Rect::new(100, 100, 200, 200);
+        let listed = query(&table, reference, &[one_of(&[corner])], &mut answer).unwrap();
+        assert_eq!(front(&answer, listed.hits as usize), [number]);
+    }
+}
+
+#[test]
+fn the_nine_pieces() {
+    let table = nine();
+    assert_eq!(table, model::tables::placed(&model::tables::nine_pieces()));
+    assert_eq!(check(&table), Ok(9));
+    let reference = Rect::new(80, 0, 85, 5);
+    let mut answer = [77; 9];
+    let listed = query(&table, reference, &[EQUAL], &mut answer).unwrap();
+    assert_eq!((listed.hits, listed.opened), (1, 2));
+    assert_eq!(answer, [8, 77, 77, 77, 77, 77, 77, 77, 77]);
+    let mut pages = [77; 3];
+    assert_eq!(opened_pages(&table, reference, &[EQUAL], &mut pages), Ok(2));
+    pages[..2].sort_unstable();
+    assert_eq!(pages, [1, 2, 77]);
+}
+
+/// Each refusal reaches its own name.
+#[test]
+fn each_refusal_by_name() {
+    let mut table = nine();
+    let (good, bad) = (Rect::new(0, 0, 1, 1), Rect::new(1, 0, 1, 1));
+    let mut short = [0; 8];
+    assert_eq!(check(&table[1..]), Err(Refusal::TableTooShort));
+    assert_eq!(place(&mut table, 9, bad), Err(Refusal::RectangleNotValid));
+    assert_eq!(place(&mut table, 1024, good), Err(Refusal::NumberTooLarge));
+    assert_eq!(place(&mut table, 8, good), Err(Refusal::AlreadyStanding));
+    assert_eq!(admitted(&[]), Err(Refusal::ClauseCount));
+    assert_eq!(admitted(&[1 << 40]), Err(Refusal::ClauseNotValid));
+    let asked = query(&table, good, &[EQUAL], &mut short);
+    assert_eq!(asked, Err(Refusal::AnswerTooShort));
+    table[2] = 10;
+    assert_eq!(check(&table), Err(Refusal::TableNotSound));
+}
+
+/// Empty slices are lent by a pointer that is not null.
+#[test]
+fn slices_of_no_length() {
+    assert_eq!(empty(&mut []), Err(Refusal::TableTooShort));
+    let nothing = Rect::new(0, 0, 0, 0);
+    assert_eq!(
+        query(&[], nothing, &[], &mut []),
+        Err(Refusal::TableTooShort)
+    );
+    let mut table = vec![0; TABLE_WORDS];
+    empty(&mut table).unwrap();
+    let listed = query(&table, Rect::new(0, 0, 1, 1), &[EQUAL], &mut []).unwrap();
+    assert_eq!((listed.hits, listed.opened), (0, 1));
+    assert_eq!(front(&[], 0), []);
+}
