@@ -39,7 +39,7 @@ pub table-ref : (t : Table) (p i : ℕ) → p < PAGES → i < 8 → getD (pageWo
 table-ref t p i pl il = ap (λ w. getD w (PAGE_HEAD + (ENTRY_WORDS * i + 4)) 0) (words-of-page t p pl) ∙ ref-word (page t p) i il
 
 -- a page's words lie in the first n
-front : (w : List ℕ) (n p : ℕ) → n ≤ length w → 45 + PAGE_WORDS * p ≤ n → pageWords w p ≡ pageWords (take n w) p
+pub front : (w : List ℕ) (n p : ℕ) → n ≤ length w → 45 + PAGE_WORDS * p ≤ n → pageWords w p ≡ pageWords (take n w) p
 front w n p l k =
     let x : List ℕ = take n w in
     let xl : length x ≡ n = omega (arith, length-take n w) in

@@ -131,11 +131,11 @@ unfolding encodeEntry decodeEntry
 entry-words c s = sym
     (ends c 0 (omega arith) ∙ rw (ends c 1 (omega arith), ends c 2 (omega arith), ends c 3 (omega arith), ends c 4 (omega arith)) (rw (drop-of-length-le c {i = 5} (omega arith))))
 
-length-unpack : {A : Type 0} (g : List ℕ → A) (w n : ℕ) (ws : List ℕ) → length (unpack g w n ws) ≡ n
+pub length-unpack : {A : Type 0} (g : List ℕ → A) (w n : ℕ) (ws : List ℕ) → length (unpack g w n ws) ≡ n
 length-unpack g w zero ws = refl
 length-unpack g w (suc n) ws = ap suc (length-unpack g w n (drop w ws))
 
-getD-unpack : {A : Type 0} (g : List ℕ → A) (w n : ℕ) (ws : List ℕ) (d : A) (i : ℕ) → i < n → getD (unpack g w n ws) i d ≡ g (take w (drop (w * i) ws))
+pub getD-unpack : {A : Type 0} (g : List ℕ → A) (w n : ℕ) (ws : List ℕ) (d : A) (i : ℕ) → i < n → getD (unpack g w n ws) i d ≡ g (take w (drop (w * i) ws))
 getD-unpack g w zero ws d i l = absurd (not-suc-le-zero l)
 getD-unpack g w (suc n) ws d zero l = rw mul-zero
 getD-unpack g w (suc n) ws d (suc i) l =
@@ -151,7 +151,7 @@ page-words c s n z =
     (λ i l. entry-words (take 5 (drop (ENTRY_WORDS * i) (drop 2 c))) (omega (arith, length-take 5 (drop (ENTRY_WORDS * i) (drop 2 c)), length-drop (ENTRY_WORDS * i) (drop 2 c), length-drop 2 c))) z′ in
     sym (ends c 0 (omega arith) ∙ rw (ends c 1 (omega arith), length-unpack, r))
 
-page-at : (w : List ℕ) (i : ℕ) → i < getD w 0 0 → page (decode w) i ≡ decodePage (pageWords w i)
+pub page-at : (w : List ℕ) (i : ℕ) → i < getD w 0 0 → page (decode w) i ≡ decodePage (pageWords w i)
 unfolding decode
 page-at w i l = rw (getD-unpack decodePage PAGE_WORDS (getD w 0 0) (drop 3 w) noPage i l, drop-drop)
 

@@ -8,7 +8,7 @@ use lib.ListN.{length, getD, drop, set, replicate, length-replicate, replicate-a
 use lib.Seq.{drop-cons, set-at}
 use borrow.Author.Tests.{lt-ltb, le-ltb}
 use Rattle.pages.specs.Sizes.{TABLE_WORDS}
-use Rattle.pages.specs.Refusals.{ACCEPTED, SHORT_TABLE}
+use Rattle.pages.specs.Refusals.{ACCEPTED, TABLE_TOO_SHORT}
 use Rattle.pages.specs.Calls.{emptyWords, emptyCall}
 
 pub zero-more : (t u : List ℕ) (i : ℕ) → i < length t → u ≡ replicate i 0 ++ drop i t → set u i 0 ≡ replicate (i + 1) 0 ++ drop (i + 1) t
@@ -19,7 +19,7 @@ emptied : (w u : List ℕ) (i : ℕ) → i ≡ TABLE_WORDS → u ≡ replicate i
 unfolding emptyWords
 emptied w u i z e = ap (λ x. set x 0 1) (e ∙ ap (λ k. replicate {A = ℕ} k 0 ++ drop k w) z)
 
-pub empty-refused : (w : List ℕ) → length w < TABLE_WORDS → (SHORT_TABLE, w) ≡ emptyCall w
+pub empty-refused : (w : List ℕ) → length w < TABLE_WORDS → (TABLE_TOO_SHORT, w) ≡ emptyCall w
 unfolding emptyCall
 empty-refused w h = rw (lt-ltb (length w) TABLE_WORDS h)
 

@@ -5,7 +5,7 @@ use mathlib.Core.List.{List, _∷_, _++_}
 use lib.ListN.{length, drop, replicate}
 use lib.Dec.{ltb}
 use Rattle.pages.specs.Sizes.{TABLE_WORDS}
-use Rattle.pages.specs.Refusals.{ACCEPTED, SHORT_TABLE}
+use Rattle.pages.specs.Refusals.{ACCEPTED, TABLE_TOO_SHORT}
 
 -- "The empty table has k = 1, root 0, and zeros elsewhere"
 unfoldable pub emptyWords : List ℕ
@@ -14,4 +14,4 @@ emptyWords = 1 ∷ replicate 14_324 0
 -- "empty 1"; words after the table are left
 unfoldable pub emptyCall : List ℕ → ℕ × List ℕ
 unfolding emptyWords
-emptyCall w = cond (ltb (length w) TABLE_WORDS) (SHORT_TABLE, w) (ACCEPTED, emptyWords ++ drop TABLE_WORDS w)
+emptyCall w = cond (ltb (length w) TABLE_WORDS) (TABLE_TOO_SHORT, w) (ACCEPTED, emptyWords ++ drop TABLE_WORDS w)

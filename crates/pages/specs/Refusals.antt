@@ -5,25 +5,25 @@ abbrev pub ACCEPTED : ℕ
 ACCEPTED = 0
 
 -- 1 "table slice shorter than 14,325 words"
-abbrev pub SHORT_TABLE : ℕ
-SHORT_TABLE = 1
+abbrev pub TABLE_TOO_SHORT : ℕ
+TABLE_TOO_SHORT = 1
 
 -- 2 "rectangle not valid"
-abbrev pub BAD_RECTANGLE : ℕ
-BAD_RECTANGLE = 2
+abbrev pub RECTANGLE_NOT_VALID : ℕ
+RECTANGLE_NOT_VALID = 2
 
 -- 3 "piece number above 1,023"
-abbrev pub BAD_NUMBER : ℕ
-BAD_NUMBER = 3
+abbrev pub NUMBER_TOO_LARGE : ℕ
+NUMBER_TOO_LARGE = 3
 
 -- 6 "table not sound"
-abbrev pub UNSOUND : ℕ
-UNSOUND = 6
+abbrev pub TABLE_NOT_SOUND : ℕ
+TABLE_NOT_SOUND = 6
 
 -- 7 "number already standing"
-abbrev pub STANDING : ℕ
-STANDING = 7
+abbrev pub ALREADY_STANDING : ℕ
+ALREADY_STANDING = 7
 
 -- 8 "answer slice shorter than the piece count (query) or than k (opened pages)"
-abbrev pub SHORT_ANSWER : ℕ
-SHORT_ANSWER = 8
+abbrev pub ANSWER_TOO_SHORT : ℕ
+ANSWER_TOO_SHORT = 8

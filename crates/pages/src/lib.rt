@@ -27,8 +27,22 @@ pub const ENTRY_WORDS: usize = 5;
 
 pub const PAGE_WORDS: usize = 42;
 
-// The words of a table before its pages: the page count, the root and the piece count.
+// The words of a table before its pages: the page count k, the root's page number and the piece count.
 pub const TABLE_HEAD: usize = 3;
+
+pub const PAGE_COUNT: usize = 0;
+
+pub const ROOT: usize = 1;
+
+pub const PIECE_COUNT: usize = 2;
+
+// The highest level of a page.
+pub const TOP_LEVEL: u32 = 4;
+
+// The fewest entries of a page below the root, and of a root above level 0.
+pub const FEWEST: u32 = 4;
+
+pub const ROOT_FEWEST: u32 = 2;
 
 pub const PAGES: usize = 341;
 
@@ -37,17 +51,17 @@ pub const TABLE_WORDS: usize = 14_325;
 // The numbers that the calls on a table return.
 pub const ACCEPTED: u32 = 0;
 
-pub const SHORT_TABLE: u32 = 1;
+pub const TABLE_TOO_SHORT: u32 = 1;
 
-pub const BAD_RECTANGLE: u32 = 2;
+pub const RECTANGLE_NOT_VALID: u32 = 2;
 
-pub const BAD_NUMBER: u32 = 3;
+pub const NUMBER_TOO_LARGE: u32 = 3;
 
-pub const UNSOUND: u32 = 6;
+pub const TABLE_NOT_SOUND: u32 = 6;
 
-pub const STANDING: u32 = 7;
+pub const ALREADY_STANDING: u32 = 7;
 
-pub const SHORT_ANSWER: u32 = 8;
+pub const ANSWER_TOO_SHORT: u32 = 8;
 
 pub struct Rect {
     pub x1: u32,
@@ -166,11 +180,11 @@ pub fn empty(table: &mut [u32]) -> u32
     ensures { λ r. ⌜ (r, now (table .exit)) ≡ emptyCall (now (table .entry)) ⌝ }
 {
     if table.len() < TABLE_WORDS {
-        return SHORT_TABLE;
+        return TABLE_TOO_SHORT;
     }
     for i in 0..TABLE_WORDS {
         table[i] = 0;
     }
-    table[0] = 1;
+    table[PAGE_COUNT] = 1;
     ACCEPTED
 }

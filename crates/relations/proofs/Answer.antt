@@ -13,21 +13,21 @@ use Rattle.relations.specs.declared.AdmittedSet.{AdmittedSet}
 use Rattle.relations.specs.Sets.{digit, total}
 use Rattle.relations.specs.Axis.{CODES}
 use Rattle.relations.specs.Relation.{RELATIONS}
-use Rattle.relations.specs.Query.{CLAUSES, BAD_CLAUSE_COUNT, BAD_CLAUSE, admits, rowSet, rowSets, admittedCount, badClause, someBad, refusalOf, answer, admittedOf}
+use Rattle.relations.specs.Query.{CLAUSES, CLAUSE_COUNT, CLAUSE_NOT_VALID, admits, rowSet, rowSets, admittedCount, badClause, someBad, refusalOf, answer, admittedOf}
 use Rattle.relations.proofs.Bits.{ones-packed, total-same, listed-at}
 
 -- ---- refusals
 
 module _ (cs : List ℕ) where
-  pub refuse-none : length cs ≡ 0 → BAD_CLAUSE_COUNT ≡ refusalOf cs
+  pub refuse-none : length cs ≡ 0 → CLAUSE_COUNT ≡ refusalOf cs
   unfolding refusalOf
   refuse-none e = simp (eq-eqb (length cs) 0 e)
 
-  pub refuse-many : (length cs ≡ 0 → ⊥) → CLAUSES < length cs → BAD_CLAUSE_COUNT ≡ refusalOf cs
+  pub refuse-many : (length cs ≡ 0 → ⊥) → CLAUSES < length cs → CLAUSE_COUNT ≡ refusalOf cs
   unfolding refusalOf
   refuse-many n h = simp (ne-eqb (length cs) 0 n, lt-ltb CLAUSES (length cs) h)
 
-  pub refuse-bad : (length cs ≡ 0 → ⊥) → length cs ≤ CLAUSES → someBad cs ≡ true → BAD_CLAUSE ≡ refusalOf cs
+  pub refuse-bad : (length cs ≡ 0 → ⊥) → length cs ≤ CLAUSES → someBad cs ≡ true → CLAUSE_NOT_VALID ≡ refusalOf cs
   unfolding refusalOf
   refuse-bad n h e = simp (ne-eqb (length cs) 0 n, le-ltb CLAUSES (length cs) h, e)
 

@@ -44,18 +44,18 @@ someBad [] = false
 someBad (c ∷ cs) = badClause c || someBad cs
 
 -- refusal 4: no clause, or more than 8
-abbrev pub BAD_CLAUSE_COUNT : ℕ
-BAD_CLAUSE_COUNT = 4
+abbrev pub CLAUSE_COUNT : ℕ
+CLAUSE_COUNT = 4
 
 -- refusal 5: a clause that is zero or has bit 40 or higher
-abbrev pub BAD_CLAUSE : ℕ
-BAD_CLAUSE = 5
+abbrev pub CLAUSE_NOT_VALID : ℕ
+CLAUSE_NOT_VALID = 5
 
 -- the first refusal whose condition holds; 0 where the clauses are a query
 unfoldable pub refusalOf : List ℕ → ℕ
 refusalOf clauses =
-    cond (eqb (length clauses) 0 || ltb CLAUSES (length clauses)) BAD_CLAUSE_COUNT
-    (cond (someBad clauses) BAD_CLAUSE 0)
+    cond (eqb (length clauses) 0 || ltb CLAUSES (length clauses)) CLAUSE_COUNT
+    (cond (someBad clauses) CLAUSE_NOT_VALID 0)
 
 abbrev pub answer : ℕ → List ℕ → AdmittedSet
 answer zero clauses = record { refusal = 0; rows = rowSets clauses; count = admittedCount clauses }

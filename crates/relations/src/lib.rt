@@ -18,9 +18,9 @@ const RELATIONS: usize = 40;
 const CLAUSES: usize = 8;
 
 // Refusals of document 01.
-pub const BAD_CLAUSE_COUNT: u32 = 4;
+pub const CLAUSE_COUNT: u32 = 4;
 
-pub const BAD_CLAUSE: u32 = 5;
+pub const CLAUSE_NOT_VALID: u32 = 5;
 
 // The answer of the admitted-set call: row set i stands at place i - 1.
 #[repr(C)]
@@ -172,18 +172,18 @@ fn refused(clauses: &[u64]) -> u32
     ensures { λ r. ⌜ r ≡ refusalOf (now (clauses .entry)) ⌝ }
 {
     if clauses.len() == 0 {
-        return BAD_CLAUSE_COUNT;
+        return CLAUSE_COUNT;
     }
     if clauses.len() > CLAUSES {
-        return BAD_CLAUSE_COUNT;
+        return CLAUSE_COUNT;
     }
     for c in 0..clauses.len() {
         let clause = clauses[c];
         if clause == 0 {
-            return BAD_CLAUSE;
+            return CLAUSE_NOT_VALID;
         }
         if clause >= 1 << RELATIONS {
-            return BAD_CLAUSE;
+            return CLAUSE_NOT_VALID;
         }
     }
     0

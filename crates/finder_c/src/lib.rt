@@ -1,0 +1,78 @@
+// The C interface: every export of the project, each with the equation of the call behind it. include/finder.h declares them.
+use pages::Rect;
+use query::Answer;
+use query::Opened;
+use relations::AdmittedSet;
+use soundness::Checked;
+ghost use mathlib.Core.Path.{_≡_};
+ghost use Rattle.relations.specs.Query.{admittedOf};
+ghost use Rattle.pages.specs.Rectangles.{rectOf};
+ghost use Rattle.pages.specs.Calls.{emptyCall};
+ghost use Rattle.soundness.specs.Calls.{checkCall};
+ghost use Rattle.placing.specs.Calls.{placeCall};
+ghost use Rattle.query.specs.Calls.{queryCall, OpenedWords};
+
+#[no_mangle]
+pub extern "C" fn finder_empty(table: &mut [u32]) -> u32
+    ensures { λ r. ⌜ (r, now (table .exit)) ≡ emptyCall (now (table .entry)) ⌝ }
+{
+    pages::empty(table)
+}
+
+#[no_mangle]
+pub extern "C" fn finder_check(table: &[u32]) -> Checked
+    ensures { λ r. ⌜ r ≡ checkCall (now (table .entry)) ⌝ }
+{
+    soundness::check(table)
+}
+
+#[no_mangle]
+pub extern "C" fn finder_place(
+    table: &mut [u32],
+    number: u32,
+    x1: u32,
+    y1: u32,
+    x2: u32,
+    y2: u32,
+) -> u32
+    ensures { λ r. ⌜ (r, now (table .exit)) ≡ placeCall (now (table .entry)) number (rectOf x1 y1 x2 y2) ⌝ }
+{
+    placing::place(table, number, Rect { x1, y1, x2, y2 })
+}
+
+#[no_mangle]
+pub extern "C" fn finder_query(
+    table: &[u32],
+    x1: u32,
+    y1: u32,
+    x2: u32,
+    y2: u32,
+    clauses: &[u64],
+    answer: &mut [u16],
+) -> Answer
+    ensures { λ r. ⌜ (r, now (answer .exit)) ≡ queryCall (now (table .entry)) (rectOf x1 y1 x2 y2) (now (clauses .entry)) (now (answer .entry)) ⌝ }
+{
+    query::query(table, Rect { x1, y1, x2, y2 }, clauses, answer)
+}
+
+#[no_mangle]
+pub extern "C" fn finder_opened_pages(
+    table: &[u32],
+    x1: u32,
+    y1: u32,
+    x2: u32,
+    y2: u32,
+    clauses: &[u64],
+    answer: &mut [u16],
+) -> Opened
+    ensures { λ r. ⌜ OpenedWords (now (table .entry)) (rectOf x1 y1 x2 y2) (now (clauses .entry)) (now (answer .entry)) (now (answer .exit)) r ⌝ }
+{
+    query::opened_pages(table, Rect { x1, y1, x2, y2 }, clauses, answer)
+}
+
+#[no_mangle]
+pub extern "C" fn finder_admitted_set(clauses: &[u64]) -> AdmittedSet
+    ensures { λ r. ⌜ r ≡ admittedOf (now (clauses .entry)) ⌝ }
+{
+    relations::admitted(clauses)
+}

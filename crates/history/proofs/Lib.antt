@@ -1,0 +1,8 @@
+pub mod Book
+pub mod Kept
+pub mod Reached
+pub mod Rising
+pub mod Listed
+pub mod Equal
+pub mod Demand3
+pub mod Replaying

@@ -1,0 +1,201 @@
+-- The words that place calls reach are a sound table, whose leaves hold exactly what stands.
+use Prim.Native.Nat.{ℕ, suc, _+_, _*_, _≤_, _<_}
+use native.Mathlib.Omega.{arith}
+use native.Mathlib.Decide.{ℕ-discrete}
+use mathlib.Core.Path.{_≡_, refl, sym, ap, _∙_, subst}
+use mathlib.Core.Bool.{Bool, true, false, not, _&&_, cond}
+use mathlib.Core.List.{List, [], _∷_, _++_}
+use lib.ListN.{length, drop, replicate, length-append}
+use lib.Seq.{take-at}
+use lib.Dec.{T, leb, ltb, eqb}
+use borrow.Author.Tests.{leb-true, leb-false, eqb-true, le-ltb, lt-ltb, eq-eqb, ne-eqb}
+use Rattle.pages.specs.declared.Rect.{Rect}
+use Rattle.pages.specs.declared.Entry.{Entry}
+use Rattle.pages.specs.Sizes.{PIECES, PAGE_WORDS, TABLE_WORDS}
+use Rattle.pages.specs.Lists.{one, allOf, sumBelow}
+use Rattle.pages.specs.Rectangles.{entryOf, valid}
+use Rattle.pages.specs.Layout.{Table, tableOf, noPage, pack, encodePage, encode, decodePage, decode, tableIn}
+use Rattle.pages.specs.Sound.{is, stored, soundTable, sound}
+use Rattle.pages.specs.Refusals.{ACCEPTED, TABLE_TOO_SHORT, RECTANGLE_NOT_VALID, NUMBER_TOO_LARGE, TABLE_NOT_SOUND, ALREADY_STANDING}
+use Rattle.pages.specs.Calls.{emptyWords, emptyCall}
+use Rattle.pages.proofs.Lists.{holds}
+use Rattle.pages.proofs.Below.{below-same, below-add, below-one, below-const}
+use Rattle.pages.proofs.Facts.{Facts, facts}
+use Rattle.pages.proofs.Round.{pack-blank, size-page, blank-page, length-encode}
+use Rattle.pages.proofs.Entries.{leaves}
+use Rattle.pages.proofs.Whole.{decode-encode, sound-encode, sound-in}
+use Rattle.placing.specs.Place.{place}
+use Rattle.placing.specs.Calls.{placeRefusal, placedWords, placeSound, placeCall}
+use Rattle.placing.proofs.Placed.{place-sound, place-holds}
+use Rattle.history.specs.Book.{Slot, Call, Book, blank, stands, isBlank, writes, feed, fed, bookAfter}
+use Rattle.history.specs.History.{placed, tableAfter}
+use Rattle.history.proofs.Book.{writes-tests}
+use Rattle.history.proofs.Kept.{refusal-tests, placed-words, outcome, sound-outcome, accepted-parts}
+
+pub T-true : (b : Bool) → T b → b ≡ true
+T-true true h = refl
+T-true false h = absurd h
+
+-- the weight of what stands at n
+unfoldable pub weigh : (Entry → ℕ) → ℕ → Slot → ℕ
+weigh f n blank = 0
+weigh f n (stands r) = f (entryOf r n)
+
+-- the leaves hold what stands
+abbrev pub Holds : Table → Book → Type 0
+Holds t b = (f : Entry → ℕ) → leaves f (t .pages) ≡ sumBelow PIECES (λ n. weigh f n (b n))
+
+pub record Reached (w : List ℕ) (b : Book) : Type 0 where
+  pub long : TABLE_WORDS ≤ length w
+  pub sound : T (sound w)
+  pub holds : Holds (tableIn w) b
+
+-- the words of a table are read back
+read-back : (t : Table) (rest : List ℕ) → Facts t → tableIn (encode t ++ rest) ≡ t
+unfolding tableIn
+read-back t rest F = ap decode (take-at (encode t) rest TABLE_WORDS (length-encode t)) ∙ decode-encode t F
+
+pub reached-encode : (t : Table) (rest : List ℕ) (b : Book) → Facts t → Holds t b → Reached (encode t ++ rest) b
+reached-encode t rest b F H = record {
+  long = omega (arith, length-append (encode t) rest, length-encode t);
+  sound = sound-encode t rest F;
+  holds = subst (λ x. Holds x b) (sym (read-back t rest F)) H;
+}
+
+-- the empty table
+bare : Table
+bare = tableOf 0 0 (noPage ∷ [])
+
+bare-facts : Facts bare
+unfolding bare soundTable
+bare-facts = facts bare tt
+
+bare-holds : Holds bare (λ n. blank)
+unfolding bare weigh
+bare-holds f = sym (below-const PIECES 0)
+
+blank-words : (n m : ℕ) → m ≡ suc (suc (PAGE_WORDS * suc n)) → replicate m 0 ≡ 0 ∷ 0 ∷ pack encodePage noPage (suc n) (noPage ∷ [])
+blank-words n m e = rw e (ap (λ w. 0 ∷ 0 ∷ w) (sym (pack-blank encodePage noPage PAGE_WORDS size-page decodePage blank-page (suc n))))
+
+bare-words : emptyWords ≡ encode bare
+unfolding emptyWords encode bare
+bare-words = ap (λ w. 1 ∷ w) (blank-words 340 14_324 refl)
+
+empty-words : (slice : List ℕ) → TABLE_WORDS ≤ length slice → emptyCall slice .1 ≡ emptyWords ++ drop TABLE_WORDS slice
+unfolding emptyCall
+empty-words slice l = rw (le-ltb (length slice) TABLE_WORDS l)
+
+pub reached-empty : (slice : List ℕ) → TABLE_WORDS ≤ length slice → Reached (emptyCall slice .1) (λ n. blank)
+reached-empty slice l = subst (λ w. Reached w (λ n. blank)) (sym (empty-words slice l ∙ ap (λ w. w ++ drop TABLE_WORDS slice) bare-words))
+    (reached-encode bare (drop TABLE_WORDS slice) (λ n. blank) bare-facts bare-holds)
+
+-- whether a number is stored is whether its slot is filled
+filled : Slot → ℕ
+unfolding isBlank
+filled s = one (not (isBlank s))
+
+weigh-is : (c n : ℕ) (s : Slot) → weigh (is c) n s ≡ cond (eqb n c) (filled s) 0
+unfolding weigh filled
+weigh-is c n blank = go (eqb n c)
+  where
+    go : (b : Bool) → _≡_ {A = ℕ} 0 (cond b 0 0)
+    go true = refl
+    go false = refl
+weigh-is c n (stands r) = refl
+
+stored-is : (m : ℕ) (t : Table) (b : Book) → ((f : Entry → ℕ) → leaves f (t .pages) ≡ sumBelow m (λ n. weigh f n (b n))) → (c : ℕ) → c < m → stored t c ≡ filled (b c)
+stored-is m t b h c l = h (is c) ∙ (below-same m (λ n. weigh (is c) n (b n)) (λ n. cond (eqb n c) (filled (b n)) 0) (λ n nl. weigh-is c n (b n)) ∙ below-one m c (λ n. filled (b n)) l)
+
+at-blank : (f : Entry → ℕ) (n : ℕ) (s : Slot) → T (isBlank s) → weigh f n s ≡ 0
+unfolding isBlank weigh
+at-blank f n blank z = refl
+at-blank f n (stands q) z = absurd z
+
+at-new : (f : Entry → ℕ) (n : ℕ) (r : Rect) → weigh f n (stands r) ≡ f (entryOf r n)
+unfolding weigh
+at-new f n r = refl
+
+-- one slot is filled
+weigh-one : (m : ℕ) (f : Entry → ℕ) (b : Book) (c : ℕ) (r : Rect) → c < m → T (isBlank (b c))
+    → sumBelow m (λ n. weigh f n (cond (eqb n c) (stands r) (b n))) ≡ f (entryOf r c) + sumBelow m (λ n. weigh f n (b n))
+weigh-one m f b c r l e =
+    let a = below-same m (λ n. weigh f n (cond (eqb n c) (stands r) (b n))) (λ n. cond (eqb n c) (f (entryOf r n)) 0 + weigh f n (b n)) (λ n nl. go n (ℕ-discrete n c)) in
+    let d = below-add m (λ n. cond (eqb n c) (f (entryOf r n)) 0) (λ n. weigh f n (b n)) in
+    omega (arith, a, d, below-one m c (λ n. f (entryOf r n)) l)
+  where
+    go : (n : ℕ) → Dec (n ≡ c) → weigh f n (cond (eqb n c) (stands r) (b n)) ≡ cond (eqb n c) (f (entryOf r n)) 0 + weigh f n (b n)
+    go n (yes z) = rw (eq-eqb n c z) (omega (arith, at-new f n r, at-blank f n (b n) (rw z e)))
+    go n (no z) = rw (ne-eqb n c z) (omega arith)
+
+blank-is : (s : Slot) (n : ℕ) → n ≡ filled s → eqb n 0 ≡ isBlank s
+unfolding filled isBlank
+blank-is blank n e = rw e
+blank-is (stands r) n e = rw e
+
+-- the refusal of a place call on words that hold what stands: zero exactly when the book is written
+module _ (w : List ℕ) (b : Book) (R : Reached w b) (c : Call) where
+  stored-blank : c .number < PIECES → eqb (stored (tableIn w) (c .number)) 0 ≡ isBlank (b (c .number))
+  stored-blank l = blank-is (b (c .number)) (stored (tableIn w) (c .number)) (stored-is PIECES (tableIn w) b (R .holds) (c .number) l)
+
+  refusal-is : eqb (placeRefusal w (c .number) (c .rect)) ACCEPTED ≡ writes b c
+  refusal-is =
+      ap (λ x. eqb x ACCEPTED) (refusal-tests w (c .number) (c .rect)) ∙ (go (valid (c .rect)) (leb PIECES (c .number)) refl ∙ sym (writes-tests b c))
+    where
+      choice : (x : Bool) → eqb (cond x ACCEPTED ALREADY_STANDING) ACCEPTED ≡ allOf (true ∷ true ∷ x ∷ [])
+      choice true = refl
+      choice false = refl
+
+      go : (v h : Bool) → leb PIECES (c .number) ≡ h
+          → eqb (cond (not v) RECTANGLE_NOT_VALID (cond h NUMBER_TOO_LARGE (cond (eqb (stored (tableIn w) (c .number)) 0) ACCEPTED ALREADY_STANDING))) ACCEPTED
+          ≡ allOf (ltb (c .number) PIECES ∷ v ∷ isBlank (b (c .number)) ∷ [])
+      go false h e = none (ltb (c .number) PIECES)
+        where
+          none : (x : Bool) → false ≡ x && false
+          none true = refl
+          none false = refl
+      go true true e = rw (le-ltb (c .number) PIECES (leb-true PIECES (c .number) e))
+      go true false e =
+          let l : c .number < PIECES = leb-false PIECES (c .number) e in
+          rw (lt-ltb (c .number) PIECES l, stored-blank l) (choice (isBlank (b (c .number))))
+
+  call-tests : placeCall w (c .number) (c .rect)
+      ≡ cond (ltb (length w) TABLE_WORDS) (TABLE_TOO_SHORT, w) (cond (sound w) (placeSound w (c .number) (c .rect)) (TABLE_NOT_SOUND, w))
+  unfolding placeCall
+  call-tests = refl
+
+  -- the table is sound, so no test of it refuses
+  pub call-sound : placeCall w (c .number) (c .rect) ≡ placeSound w (c .number) (c .rect)
+  call-sound = call-tests ∙ rw (le-ltb (length w) TABLE_WORDS (R .long), T-true (sound w) (R .sound))
+
+  writes-blank : T (writes b c) → T (isBlank (b (c .number)))
+  writes-blank h = holds (ltb (c .number) PIECES ∷ valid (c .rect) ∷ isBlank (b (c .number)) ∷ []) (rw (writes-tests b c) at h) .1 .1 .0
+
+  reached-placed : T (writes b c) → Reached (placedWords w (c .number) (c .rect)) (λ n. cond (eqb n (c .number)) (stands (c .rect)) (b n))
+  reached-placed h =
+      let t = tableIn w in
+      let F : Facts t = sound-in w (R .sound) in
+      let (v, l, free) = accepted-parts w (c .number) (c .rect) (eqb-true (placeRefusal w (c .number) (c .rect)) ACCEPTED (refusal-is ∙ T-true (writes b c) h)) in
+      subst (λ x. Reached x (λ n. cond (eqb n (c .number)) (stands (c .rect)) (b n))) (sym (placed-words w (c .number) (c .rect)))
+      (reached-encode (place t (c .number) (c .rect)) (drop TABLE_WORDS w) (λ n. cond (eqb n (c .number)) (stands (c .rect)) (b n))
+      (place-sound t (c .number) (c .rect) F v l free)
+      (λ f. place-holds t (c .number) (c .rect) F v l free f ∙ (ap (λ m. f (entryOf (c .rect) (c .number)) + m) (R .holds f)
+      ∙ sym (weigh-one PIECES f b (c .number) (c .rect) l (writes-blank h)))))
+
+  pub reached-call : Reached (placeCall w (c .number) (c .rect) .1) (feed b c)
+  unfolding feed
+  reached-call =
+      subst (λ x. Reached (x .1) (λ n. cond (writes b c && eqb n (c .number)) (stands (c .rect)) (b n)))
+      (sym (call-sound ∙ (sound-outcome w (c .number) (c .rect) ∙ ap (outcome w (c .number) (c .rect)) refusal-is))) (go (writes b c) refl)
+    where
+      go : (x : Bool) → writes b c ≡ x → Reached (outcome w (c .number) (c .rect) x .1) (λ n. cond (x && eqb n (c .number)) (stands (c .rect)) (b n))
+      go true e = reached-placed (rw e tt)
+      go false e = R
+
+pub reached-calls : (cs : List Call) (w : List ℕ) (b : Book) → Reached w b → Reached (placed w cs) (fed b cs)
+unfolding placed fed
+reached-calls [] w b R = R
+reached-calls (c ∷ cs) w b R = reached-calls cs (placeCall w (c .number) (c .rect) .1) (feed b c) (reached-call w b R c)
+
+pub reached-after : (slice : List ℕ) → TABLE_WORDS ≤ length slice → (calls : List Call) → Reached (tableAfter slice calls) (bookAfter calls)
+unfolding tableAfter bookAfter
+reached-after slice l calls = reached-calls calls (emptyCall slice .1) (λ n. blank) (reached-empty slice l)

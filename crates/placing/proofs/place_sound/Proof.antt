@@ -1,0 +1,61 @@
+-- Each refusal by its condition; the writing by the law from words to the table.
+use mathlib.Core.Path.{sym, ap, _∙_}
+use borrow.Author.Tests.{not-true, not-false}
+use Rattle.pages.specs.Refusals.{ACCEPTED}
+use Rattle.placing.proofs.Searching.{some-held, none-held}
+use Rattle.placing.proofs.Joined.{head-in}
+use Rattle.placing.proofs.Called.{call-not-valid, call-too-large, call-stands, call-done}
+use borrow.Author.Needs.{needs}
+use Rattle.placing.proofs.place_sound.Statement.{statement}
+use Rattle.placing.proofs.place_sound.Tie as tie
+
+is-valid-requires : tie.Need-is-valid-requires
+is-valid-requires c κs = search needs
+
+returns : tie.Need-returns
+returns c = call-not-valid _ _ _ (sym (c .before .is-valid .ensures) ∙ not-true _ (c .if1 .taken))
+
+returns-2 : tie.Need-returns-2
+returns-2 c = call-too-large _ _ _ (sym (c .before .before .is-valid .ensures) ∙ not-false _ (c .before .if1 .left)) (c .if2 .taken)
+
+stands-requires : tie.Need-stands-requires
+stands-requires c κs =
+    let p = c .before .before .before .before .before .pre in
+    (p .0, head-in _ (p .0) (p .1) .0)
+
+same-length : tie.Need-same-length
+same-length c = search needs
+
+returns-3 : tie.Need-returns-3
+returns-3 c =
+    let p = c .before .before .before .before .before .before .before .pre in
+    call-stands _ _ _ (p .0) (p .1) (sym (c .before .before .before .before .before .is-valid .ensures) ∙ not-false _ (c .before .before .before .before .if1 .left)) (c .before .before .before .if2 .left) (some-held _ _ (c .before .stands .ensures) (c .if3 .taken))
+
+place-in-requires : tie.Need-place-in-requires
+place-in-requires c κs =
+    let p = c .before .before .before .before .before .before .before .before .pre in
+    let h = head-in _ (p .0) (p .1) in
+    (p .0, h .1, h .2, h .3)
+
+same-length-2 : tie.Need-same-length-2
+same-length-2 c = search needs
+
+returns-4 : tie.Need-returns-4
+returns-4 c =
+    let p = c .before .before .before .before .before .before .before .before .before .before .before .pre in
+    ap (λ v. (ACCEPTED, v)) (c .before .before .place-in .ensures)
+    ∙ call-done _ _ _ (p .0) (p .1) (sym (c .before .before .before .before .before .before .before .before .before .is-valid .ensures) ∙ not-false _ (c .before .before .before .before .before .before .before .before .if1 .left)) (c .before .before .before .before .before .before .before .if2 .left) (none-held _ _ (c .before .before .before .before .before .stands .ensures) (c .before .before .before .before .if3 .left))
+
+pub place-sound-spec : {M : Type 1} → statement M
+place-sound-spec =
+    tie.close
+    (tie.spec
+    is-valid-requires
+    returns
+    returns-2
+    stands-requires
+    same-length
+    returns-3
+    place-in-requires
+    same-length-2
+    returns-4)

@@ -1,0 +1,164 @@
+use borrow.Author.Needs.{needs}
+use Prim.Native.Nat.{_≤_, _+_, _-_}
+use native.Mathlib.Nat.{add-zero}
+use native.Mathlib.Omega.{arith}
+use mathlib.Core.Path.{_≡_, refl, sym, ap, _∙_}
+use mathlib.Core.Logic.{⊎-elim}
+use lib.ListN.{length}
+use Rattle.pages.specs.Layout.{page, tableIn}
+use Rattle.query.specs.Steps.{admitsBy, opensBy, marked}
+use Rattle.query.proofs.Reading.{leaf-page, child-page, same-page}
+use Rattle.query.proofs.Walking.{Marking, opened-one, opened-leaf, hits-leaf, child-room, marking-open, marking-shut, count-end, marks-end}
+use Prim.Native.Nat.{ℕ, _<_}
+use borrow.Fn.Kinds.{In}
+use borrow.Fn.PlainCycle.{Measures, is, falls, and}
+use Rattle.query.proofs.walk.Reads as walk
+use Rattle.query.proofs.walk.Kinds as walk-kinds
+use Rattle.query.proofs.+walk.Lts-walk as walk-lts
+use Rattle.query.proofs.entry_at.Reads as entry-at-reads
+use Rattle.query.proofs.mark_leaf.Reads as mark-leaf-reads
+use Rattle.query.proofs.opens.Reads as opens-reads
+use Rattle.query.proofs.size_of.Reads as size-of-reads
+use Rattle.query.proofs.wide.Reads as wide-reads
+use Rattle.query.proofs.+walk.{statement}
+use Rattle.query.proofs.+walk.Tie.{close}
+
+abbrev μ-walk : Measures 4 walk-kinds.ps ℕ
+μ-walk κs a = a .1 .1 .1 .1 .0
+
+abbrev walk-at : ℕ → In 4 walk-kinds.ps
+walk-at t = and 4 walk-kinds.ps (is 4 walk-kinds.ps μ-walk t) walk.Pre
+
+abbrev walk-below : ℕ → In 4 walk-kinds.ps
+walk-below t = and 4 walk-kinds.ps (falls 4 walk-kinds.ps _<_ μ-walk t) walk.Pre
+
+abbrev walk-cs : ℕ → walk-lts.Claims
+walk-cs t = (mark-leaf-reads.Asked, mark-leaf-reads.Learnt, size-of-reads.Asked, size-of-reads.Learnt, entry-at-reads.Asked, entry-at-reads.Learnt, opens-reads.Asked, opens-reads.Learnt, wide-reads.Asked, wide-reads.Learnt, walk-below t, walk.Post)
+
+abbrev walk-Inv-loop : walk-lts.InvT-loop
+walk-Inv-loop table reference rows below level p marks₀ opened count₀ n i₀ marks count i =
+    (n ≡ length (page (tableIn table) p .entries)) × (i ≤ n)
+    × Marking (admitsBy rows reference) (opensBy below reference) (tableIn table .pages) (level - 1) (page (tableIn table) p .entries) i (opened + 1) count marks₀ marks
+
+abbrev walk-μ-loop : walk-lts.MeasureT-loop
+walk-μ-loop table reference rows below level p marks₀ opened count₀ n i₀ marks count i = n - i
+
+-- src/lib.rt:130:26
+walk-add-count : (t : ℕ) → walk-lts.Need-add-count (walk-cs t) (walk-at t) walk.Post walk-Inv-loop walk-μ-loop
+walk-add-count t c =
+    let a = c .before .args in
+    omega (arith, opened-one (opensBy (a .below .now) (a .reference)) (tableIn (a .table .now) .pages) (a .level) (a .p))
+
+-- src/lib.rt:132:9
+walk-mark-leaf-requires : (t : ℕ) → walk-lts.Need-mark-leaf-requires (walk-cs t) (walk-at t) walk.Post walk-Inv-loop walk-μ-loop
+walk-mark-leaf-requires t c κs = leaf-page _ _ _ (c .before .before .before .pre .1 .0) (c .before .if1 .taken)
+
+-- src/lib.rt:133:9
+walk-returns : (t : ℕ) → walk-lts.Need-returns (walk-cs t) (walk-at t) walk.Post walk-Inv-loop walk-μ-loop
+walk-returns t c =
+    let a = c .before .before .before .before .args in
+    let z = c .before .before .if1 .taken in (
+      omega (arith, ap length (opened-leaf (opensBy (a .below .now) (a .reference)) (tableIn (a .table .now) .pages) (a .level) (a .p) z)),
+      c .mark-leaf .ensures ∙ ap (marked _) (sym (hits-leaf _ _ _ (a .level) (a .p) z)),
+    )
+
+-- src/lib.rt:135:9
+walk-size-of-requires : (t : ℕ) → walk-lts.Need-size-of-requires (walk-cs t) (walk-at t) walk.Post walk-Inv-loop walk-μ-loop
+walk-size-of-requires t c κs = c .before .before .pre .1 .0
+
+-- src/lib.rt:136:5
+walk-loop-holds : (t : ℕ) → walk-lts.Need-loop-holds (walk-cs t) (walk-at t) walk.Post walk-Inv-loop walk-μ-loop
+unfolding marked
+walk-loop-holds t c = (c .size-of .ensures, omega arith, (sym (add-zero _), refl))
+
+-- src/lib.rt:137:13
+walk-entry-at-requires : (t : ℕ) → walk-lts.Need-entry-at-requires (walk-cs t) (walk-at t) walk.Post walk-Inv-loop walk-μ-loop
+walk-entry-at-requires t c κs =
+    let g = c .before .before .before .before .before in
+    (g .pre .1 .0, omega (arith, c .before .loop .inv .0))
+
+-- src/lib.rt:138:12
+walk-opens-requires : (t : ℕ) → walk-lts.Need-opens-requires (walk-cs t) (walk-at t) walk.Post walk-Inv-loop walk-μ-loop
+walk-opens-requires t c κs = search needs
+
+-- src/lib.rt:144:17
+walk-sub-walk : (t : ℕ) → walk-lts.Need-sub-walk (walk-cs t) (walk-at t) walk.Post walk-Inv-loop walk-μ-loop
+walk-sub-walk t c = search needs
+
+-- src/lib.rt:145:17
+walk-wide-requires : (t : ℕ) → walk-lts.Need-wide-requires (walk-cs t) (walk-at t) walk.Post walk-Inv-loop walk-μ-loop
+walk-wide-requires t c κs = search needs
+
+-- src/lib.rt:139:13
+walk-walk-requires : (t : ℕ) → walk-lts.Need-walk-requires (walk-cs t) (walk-at t) walk.Post walk-Inv-loop walk-μ-loop
+walk-walk-requires t c κs =
+    let g = c .before .before .before .before .before .before .before .before .before .before in
+    let a = g .args in
+    let l = c .before .before .before .before .before .before .loop in
+    let e = c .before .before .before .before .entry-at in
+    let z = c .before .before .before .before .before .before .before .before .if1 .left in
+    let il : l .i < length (page (tableIn (a .table .now)) (a .p) .entries) = omega arith in
+    let y = sym (c .before .before .before .opens .ensures) ∙ c .before .before .if2 .taken in (
+      omega arith,
+      (
+        same-page _ _ _ _ (c .before .wide .ensures ∙ ap (λ x. x .r) (e .ensures)) (child-page _ _ _ (g .pre .1 .0) (l .i) z il),
+        child-room (opensBy (a .below .now) (a .reference)) (tableIn (a .table .now) .pages) (a .level) (a .p) (l .i) (e .result) _ (c .before .wide .ensures) (a .opened) (l .count) _ z il (e .ensures) y (l .inv .2 .0) (g .pre .1 .1),
+      ),
+    )
+
+-- src/lib.rt:136:9
+walk-add-i : (t : ℕ) → walk-lts.Need-add-i (walk-cs t) (walk-at t) walk.Post walk-Inv-loop walk-μ-loop
+walk-add-i t c = search needs
+
+-- src/lib.rt:136:5
+walk-loop-less : (t : ℕ) → walk-lts.Need-loop-less (walk-cs t) (walk-at t) walk.Post walk-Inv-loop walk-μ-loop
+walk-loop-less t c = search needs
+
+-- src/lib.rt:136:5
+walk-loop-again : (t : ℕ) → walk-lts.Need-loop-again (walk-cs t) (walk-at t) walk.Post walk-Inv-loop walk-μ-loop
+walk-loop-again t c =
+    let g = c .before .before .before .before .before .before .before .before in
+    let a = g .args in
+    let l = c .before .before .before .before .loop in
+    let e = c .before .before .entry-at in
+    let il : l .i < length (page (tableIn (a .table .now)) (a .p) .entries) = omega arith in
+    let y = sym (c .before .opens .ensures) in (
+      l .inv .0,
+      omega arith,
+      ⊎-elim
+          (λ w. let u = marking-open (opensBy (a .below .now) (a .reference)) (tableIn (a .table .now) .pages) (a .level - 1) _ (l .i) (e .result) il (e .ensures) (a .opened + 1) (l .count) _ (w .1 .ensures) (admitsBy (a .rows .now) (a .reference)) _ (l .marks) _ (w .3 .result) (y ∙ w .0 .taken) (l .inv .2) (w .3 .ensures) in (w .5 ∙ u .0, w .4 ∙ u .1))
+          (λ w. let u = marking-shut (opensBy (a .below .now) (a .reference)) (tableIn (a .table .now) .pages) (a .level - 1) _ (l .i) (e .result) il (e .ensures) (a .opened + 1) (l .count) (admitsBy (a .rows .now) (a .reference)) _ (l .marks) (y ∙ w .0 .left) (l .inv .2) in (w .2 ∙ u .0, w .1 ∙ u .1))
+          (c .if2 .came),
+    )
+
+-- src/lib.rt:116:1
+walk-returns-2 : (t : ℕ) → walk-lts.Need-returns-2 (walk-cs t) (walk-at t) walk.Post walk-Inv-loop walk-μ-loop
+walk-returns-2 t c =
+    let a = c .before .before .before .before .before .args in
+    let l = c .before .loop in
+    let z = c .before .before .before .if1 .left in
+    let il : length (page (tableIn (a .table .now)) (a .p) .entries) ≤ l .i = omega arith in (
+      count-end (opensBy (a .below .now) (a .reference)) (tableIn (a .table .now) .pages) (a .level) (a .p) (l .i) (a .opened) (l .count) z il (l .inv .2 .0),
+      marks-end (admitsBy (a .rows .now) (a .reference)) (opensBy (a .below .now) (a .reference)) (tableIn (a .table .now) .pages) (a .level) (a .p) (l .i) _ (l .marks) z il (l .inv .2 .1),
+    )
+
+pub +walk-spec : {M : Type 1} → statement M
++walk-spec = close μ-walk λ t. walk-lts.spec (walk-cs t)
+    (walk-at t)
+    walk.Post
+    walk-Inv-loop
+    walk-μ-loop
+    (walk-add-count t)
+    (walk-mark-leaf-requires t)
+    (walk-returns t)
+    (walk-size-of-requires t)
+    (walk-loop-holds t)
+    (walk-entry-at-requires t)
+    (walk-opens-requires t)
+    (walk-sub-walk t)
+    (walk-wide-requires t)
+    (walk-walk-requires t)
+    (walk-add-i t)
+    (walk-loop-less t)
+    (walk-loop-again t)
+    (walk-returns-2 t)

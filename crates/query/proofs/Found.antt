@@ -1,0 +1,156 @@
+-- The walk from the root marks the listing: what it passes over holds no admitted piece. The listing is no longer than the piece count.
+use Prim.Native.Nat.{ℕ, zero, suc, _+_, _/_, _≤_, _<_}
+use native.Mathlib.Omega.{arith}
+use native.Mathlib.Nat.{le-trans, le-of-eq}
+use native.Mathlib.Decide.{ℕ-discrete}
+use mathlib.Core.Path.{_≡_, refl, sym, ap, _∙_}
+use mathlib.Core.Bool.{Bool, true, false, cond}
+use mathlib.Core.List.{List, [], _∷_, _++_}
+use lib.ListN.{length, replicate, length-append}
+use lib.Dec.{T, ltb, eqb}
+use Rattle.pages.specs.declared.Rect.{Rect}
+use Rattle.pages.specs.declared.Entry.{Entry}
+use Rattle.pages.specs.Sizes.{PIECES}
+use Rattle.pages.specs.Lists.{one, sum, sumBelow}
+use Rattle.pages.specs.Rectangles.{valid}
+use Rattle.pages.specs.Layout.{Page, Table, noEntry, noPage, pageAt, page}
+use Rattle.pages.specs.Sound.{pieceEntries, is, stored, pieces}
+use Rattle.pages.proofs.Lists.{Every, at-every, sum-append, sum-same, sum-le, sum-length, sum-below}
+use Rattle.pages.proofs.Below.{below-same, below-le, below-none, eqb-no, eqb-sym}
+use Rattle.pages.proofs.Facts.{Facts}
+use Rattle.pages.proofs.Walk.{walked, Within, walk-finds}
+use Rattle.query.specs.Opening.{joined}
+use Rattle.query.specs.Listing.{rising, admittedAs, listing}
+use Rattle.query.specs.Calls.{times}
+use Rattle.query.specs.Steps.{MARK_BITS, MARK_WORDS, admittedR, hitsUnder, hitsFrom, isMarked, marked, markedNumbers}
+use Rattle.query.proofs.Marks.{marked-new, rising-same}
+
+pub sum-joined : {A B : Type 0} (g : B → ℕ) (f : A → List B) (xs : List A) → sum g (joined f xs) ≡ sum (λ x. sum g (f x)) xs
+sum-joined g f [] = refl
+sum-joined g f (x ∷ xs) = omega (arith, sum-append g (f x) (joined f xs), sum-joined g f xs)
+
+-- 1 for an admitted entry with the r c
+abbrev weight : (Rect → Bool) → ℕ → Entry → ℕ
+weight admit c e = cond (admit (e .rect)) (is c e) 0
+
+pub every-entry : (P : Entry → Type 0) → ((e : Entry) → P e) → (es : List Entry) → Every P es
+every-entry P h [] = tt
+every-entry P h (e ∷ es) = (h e, every-entry P h es)
+
+module _ (admit opens : Rect → Bool) (c : ℕ) (ps : List Page) where
+  hit-times : (e : Entry) → times c (admittedR admit e) ≡ weight admit c e
+  hit-times e = go (admit (e .rect))
+    where
+      go : (b : Bool) → times c (cond b (e .r ∷ []) []) ≡ cond b (is c e) 0
+      go true = omega arith
+      go false = refl
+
+  cond-times : (b : Bool) (xs : List ℕ) (n : ℕ) → times c xs ≡ n → times c (cond b xs []) ≡ cond b n 0
+  cond-times true xs n h = h
+  cond-times false xs n h = refl
+
+  -- how often the walk meets c
+  hits-times : (l p : ℕ) → times c (hitsUnder admit opens ps l p) ≡ walked opens (weight admit c) ps l p
+  unfolding hitsUnder walked
+  hits-times zero p =
+      sum-joined (λ x. one (eqb x c)) (admittedR admit) (pageAt ps p .entries)
+      ∙ sum-same (λ e. times c (admittedR admit e)) (weight admit c) (pageAt ps p .entries) (every-entry _ hit-times (pageAt ps p .entries))
+  hits-times (suc l) p =
+      sum-joined (λ x. one (eqb x c)) (λ e. cond (opens (e .rect)) (hitsUnder admit opens ps l (e .r)) []) (pageAt ps p .entries)
+      ∙ sum-same (λ e. times c (cond (opens (e .rect)) (hitsUnder admit opens ps l (e .r)) [])) (λ e. cond (opens (e .rect)) (walked opens (weight admit c) ps l (e .r)) 0) (pageAt ps p .entries)
+      (every-entry _ (λ e. cond-times (opens (e .rect)) (hitsUnder admit opens ps l (e .r)) (walked opens (weight admit c) ps l (e .r)) (hits-times l (e .r))) (pageAt ps p .entries))
+
+shut : (admit : Rect → Bool) (c : ℕ) (e : Entry) → (T (admit (e .rect)) → ⊥) → weight admit c e ≡ 0
+shut admit c e = go (admit (e .rect))
+  where
+    go : (b : Bool) → (T b → ⊥) → cond b (is c e) 0 ≡ 0
+    go true h = absurd (h tt)
+    go false h = refl
+
+module _ (t : Table) (F : Facts t) (admit opens : Rect → Bool) (reaches : (r s : Rect) → T (valid r) → Within r s → T (admit r) → T (opens s)) where
+  met : (c : ℕ) → times c (hitsFrom admit opens t) ≡ admittedAs admit t c
+  unfolding hitsFrom
+  met c =
+      hits-times admit opens c (t .pages) (page t (t .root) .level) (t .root)
+      ∙ walk-finds t F admit opens reaches (weight admit c) (shut admit c)
+
+  marked-met : (n c : ℕ) → c / MARK_BITS < n → isMarked (marked (replicate n 0) (hitsFrom admit opens t)) c ≡ ltb 0 (admittedAs admit t c)
+  marked-met n c l = marked-new n (hitsFrom admit opens t) c l ∙ ap (ltb 0) (met c)
+
+  -- the marked numbers are the listing
+  pub found : markedNumbers (marked (replicate MARK_WORDS 0) (hitsFrom admit opens t)) ≡ listing admit t
+  unfolding markedNumbers listing
+  found = rising-same PIECES (isMarked (marked (replicate MARK_WORDS 0) (hitsFrom admit opens t))) (λ c. ltb 0 (admittedAs admit t c)) (λ c l. marked-met MARK_WORDS c (omega arith))
+
+-- ---- how long the listing is
+
+one-le : (b : Bool) → one b ≤ 1
+one-le true = omega arith
+one-le false = omega arith
+
+length-rising : (n : ℕ) (p : ℕ → Bool) → length (rising n p) ≡ sumBelow n (λ c. one (p c))
+length-rising zero p = refl
+length-rising (suc n) p = omega (arith, length-append (rising n p) (cond (p n) (n ∷ []) []), length-rising n p, go (p n))
+  where
+    go : (b : Bool) → length {A = ℕ} (cond b (n ∷ []) []) ≡ one b
+    go true = refl
+    go false = refl
+
+some-one : (m : ℕ) → one (ltb 0 m) ≤ m
+some-one zero = omega arith
+some-one (suc m) = go (ltb 0 (suc m))
+  where
+    go : (b : Bool) → one b ≤ suc m
+    go true = omega arith
+    go false = omega arith
+
+module _ (t : Table) (admit : Rect → Bool) where
+  weight-le : (c : ℕ) (e : Entry) → weight admit c e ≤ is c e
+  weight-le c e = go (admit (e .rect))
+    where
+      go : (b : Bool) → cond b (is c e) 0 ≤ is c e
+      go true = omega arith
+      go false = omega arith
+
+  pub admitted-le : (c : ℕ) → admittedAs admit t c ≤ stored t c
+  admitted-le c =
+      sum-le (λ p. sum (weight admit c) (pieceEntries p)) (λ p. sum (is c) (pieceEntries p)) (t .pages)
+      (at-every (λ p. sum (weight admit c) (pieceEntries p) ≤ sum (is c) (pieceEntries p)) (t .pages) noPage
+      (λ i l. sum-le (weight admit c) (is c) (pieceEntries (page t i)) (every-entry _ (weight-le c) (pieceEntries (page t i)))))
+
+  -- an entry has one r
+  one-r : (n : ℕ) (e : Entry) → sumBelow n (λ c. is c e) ≤ 1
+  one-r zero e = omega arith
+  one-r (suc n) e = go (ℕ-discrete n (e .r)) (one-r n e)
+    where
+      go : Dec (n ≡ e .r) → sumBelow n (λ c. is c e) ≤ 1 → sumBelow (suc n) (λ c. is c e) ≤ 1
+      go (yes z) r =
+          let a : sumBelow n (λ c. is c e) ≡ 0 = below-same n (λ c. is c e) (λ c. cond (eqb c (e .r)) 1 0) (λ c l. ap one (eqb-sym (e .r) c)) ∙ below-none n (e .r) (λ c. 1) (omega arith) in
+          let b : is n e ≤ 1 = one-le (eqb (e .r) n) in
+          omega (arith, a, b)
+      go (no z) r =
+          let b : is n e ≡ 0 = ap one (eqb-no (e .r) n (λ y. z (sym y))) in
+          omega (arith, b)
+
+  stored-all : (n : ℕ) → sumBelow n (stored t) ≤ pieces t
+  stored-all n =
+      let a = sum-below (λ c p. sum (is c) (pieceEntries p)) n (t .pages) in
+      let b = sum-le (λ p. sumBelow n (λ c. sum (is c) (pieceEntries p))) (λ p. length (pieceEntries p)) (t .pages)
+      (at-every (λ p. sumBelow n (λ c. sum (is c) (pieceEntries p)) ≤ length (pieceEntries p)) (t .pages) noPage (λ i l. each (pieceEntries (page t i)))) in
+      omega (arith, a, b)
+    where
+      each : (es : List Entry) → sumBelow n (λ c. sum (is c) es) ≤ length es
+      each es = omega (arith, sum-below is n es, sum-le (λ e. sumBelow n (λ c. is c e)) (λ e. 1) es (every-entry _ (one-r n) es), sum-length es)
+
+  listed-few : (n : ℕ) → length (rising n (λ c. ltb 0 (admittedAs admit t c))) ≤ pieces t
+  listed-few n =
+      omega (
+        arith,
+        length-rising n (λ c. ltb 0 (admittedAs admit t c)),
+        below-le n (λ c. one (ltb 0 (admittedAs admit t c))) (stored t) (λ c l. le-trans (some-one (admittedAs admit t c)) (admitted-le c)),
+        stored-all n,
+      )
+
+  pub listing-few : Facts t → length (listing admit t) ≤ t .count
+  unfolding listing
+  listing-few F = le-trans (listed-few PIECES) (le-of-eq (sym (F .counted)))

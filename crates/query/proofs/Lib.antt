@@ -1,0 +1,16 @@
+-- The laws that the proofs of `query` cite; `Demand2` has what is owed of the whole.
+pub mod Reading
+pub mod Joined
+pub mod Bits
+pub mod Marks
+pub mod Walking
+pub mod Found
+pub mod Root
+pub mod Tests
+pub mod Calls
+pub mod Whole
+pub mod Members
+pub mod Parents
+pub mod Pieces
+pub mod Accepted
+pub mod Demand2

@@ -1,0 +1,91 @@
+-- The tests by row sets and by joined rows are those of the definitions; an admitted rectangle reaches the page that holds it.
+use Prim.Native.Nat.{ℕ, zero, suc, _-_, _<_}
+use native.Mathlib.Omega.{arith}
+use mathlib.Core.Path.{_≡_, refl, sym, ap, _∙_}
+use mathlib.Core.Logic.{_↔_}
+use mathlib.Core.Bool.{Bool, true, false, _&&_, and-false, false≢true}
+use mathlib.Core.List.{List, [], _∷_}
+use lib.ListN.{getD}
+use lib.Dec.{T, leb, ltb, leb→le, ltb→lt}
+use Rattle.relations.specs.Sets.{bit}
+use Rattle.relations.specs.Axis.{CODES}
+use Rattle.relations.specs.Query.{refusalOf, rowSets, answer, admittedOf}
+use Rattle.relations.specs.Nodes.{inside, QuarterRect}
+use Rattle.relations.specs.Steps.{joinedOf, pageTest, rowsHave}
+use Rattle.relations.proofs.Bits.{bit-none, none-below}
+use Rattle.relations.proofs.Sides.{is-code}
+use Rattle.relations.proofs.Pages.{rows-have, page-test, may-hold, holds-inside}
+use Rattle.pages.specs.declared.Rect.{Rect}
+use Rattle.pages.specs.Sizes.{EDGE}
+use Rattle.pages.specs.Rectangles.{valid}
+use Rattle.pages.proofs.Lists.{holds}
+use Rattle.pages.proofs.Walk.{Within}
+use Rattle.query.specs.Admission.{codeY, codeX, admitsRect, opens}
+use Rattle.query.specs.Steps.{admitsBy, opensBy}
+
+-- a row that is empty admits nothing, and holds nothing below it
+pub empty-row : (rows : List ℕ) (i j : ℕ) → getD rows (i - 1) 0 ≡ 0 → rowsHave rows i j ≡ false
+unfolding rowsHave
+empty-row rows i j e = ap (λ r. bit r (j - 1)) e ∙ bit-none (j - 1)
+
+pub empty-below : (below : List ℕ) (cy cx : ℕ) → getD below (cy - 1) 0 ≡ 0 → pageTest below cy cx ≡ false
+unfolding pageTest
+empty-below below cy cx e =
+    none-below (λ k. inside cx (suc k) && bit (getD below (cy - 1) 0) k) CODES (λ k l. ap (λ b. inside cx (suc k) && b) (ap (λ r. bit r k) e ∙ bit-none k) ∙ and-false (inside cx (suc k)))
+
+pub is-true : (b : Bool) → T b → b ≡ true
+is-true true h = refl
+is-true false h = absurd h
+
+pub from-true : (b : Bool) → b ≡ true → T b
+from-true true e = tt
+from-true false e = absurd (false≢true e)
+
+pub admits-same : (clauses : List ℕ) (q : Rect) → admitsBy (rowSets clauses) q ≡ admitsRect clauses q
+unfolding admitsBy admitsRect
+admits-same clauses q = λ i p. rows-have clauses (codeY q p) (codeX q p) (is-code (p .y1) (p .y2) (q .y1) (q .y2)) (is-code (p .x1) (p .x2) (q .x1) (q .x2)) i
+
+pub opens-same : (clauses : List ℕ) (q : Rect) → opensBy (joinedOf (rowSets clauses)) q ≡ opens clauses q
+unfolding opensBy opens
+opens-same clauses q = λ i p. page-test (rowSets clauses) (codeY q p) (codeX q p) (is-code (p .y1) (p .y2) (q .y1) (q .y2)) i
+
+-- the order of a valid rectangle's edges
+pub record Proper (r : Rect) : Type 0 where
+  pub on-x : r .x1 < r .x2
+  pub on-y : r .y1 < r .y2
+
+pub proper : (r : Rect) → T (valid r) → Proper r
+unfolding valid
+proper r v =
+    let (a, (b, _)) = holds (ltb (r .x1) (r .x2) ∷ ltb (r .y1) (r .y2) ∷ leb (r .x1) EDGE ∷ leb (r .y1) EDGE ∷ leb (r .x2) EDGE ∷ leb (r .y2) EDGE ∷ []) v in
+    record { on-x = ltb→lt _ _ a; on-y = ltb→lt _ _ b }
+
+pub around : (r s : Rect) → Proper r → Within r s → Proper s
+around r s p w = omega arith
+
+-- an admitted rectangle inside a page's makes the page open
+pub reaches : (clauses : List ℕ) (q : Rect) → Proper q → (r s : Rect) → T (valid r) → Within r s → T (admitsRect clauses q r) → T (opens clauses q s)
+unfolding admitsRect opens
+reaches clauses q pq r s v w a =
+    let pr = proper r v in
+    let ps = around r s pr w in
+    from-true _
+    (holds-inside clauses (s .x1) (s .y1) (s .x2) (s .y2) (q .x1) (q .y1) (q .x2) (q .y2) (ps .on-x) (ps .on-y) (pq .on-x) (pq .on-y) (r .x1) (r .y1) (r .x2) (r .y2)
+    (w .left) (w .bottom) (pr .on-x) (pr .on-y) (w .right) (w .head) (is-true _ a))
+
+pub set-refusal : (clauses : List ℕ) → admittedOf clauses .refusal ≡ refusalOf clauses
+unfolding admittedOf
+set-refusal clauses = go (refusalOf clauses)
+  where
+    go : (r : ℕ) → answer r clauses .refusal ≡ r
+    go zero = refl
+    go (suc r) = refl
+
+-- the quarter-unit rule between two rectangles
+abbrev pub QuarterIn : List ℕ → Rect → Rect → Type 0
+QuarterIn clauses q s = QuarterRect clauses (s .x1) (s .y1) (s .x2) (s .y2) (q .x1) (q .y1) (q .x2) (q .y2)
+
+pub quarter-rule : (clauses : List ℕ) (q s : Rect) → Proper q → Proper s → QuarterIn clauses q s ↔ (opens clauses q s ≡ true)
+unfolding opens
+quarter-rule clauses q s pq ps =
+    may-hold clauses (s .x1) (s .y1) (s .x2) (s .y2) (q .x1) (q .y1) (q .x2) (q .y2) (ps .on-x) (ps .on-y) (pq .on-x) (pq .on-y)

@@ -1,0 +1,97 @@
+use borrow.Author.Needs.{needs}
+use Prim.Native.Nat.{_≤_, _<_, _-_}
+use native.Mathlib.Omega.{arith}
+use mathlib.Core.Path.{_≡_, refl, sym, ap, _∙_}
+use mathlib.Core.Logic.{⊎-elim}
+use lib.ListN.{length, take}
+use Rattle.pages.specs.Layout.{page, tableIn}
+use Rattle.query.specs.Opening.{joined}
+use Rattle.query.specs.Steps.{admitsBy, admittedR, marked}
+use Rattle.query.proofs.Reading.{piece-number}
+use Rattle.query.proofs.Joined.{joined-all}
+use Rattle.query.proofs.Walking.{leaf-hit, leaf-miss}
+use Rattle.query.proofs.mark_leaf.Statement.{statement}
+use Rattle.query.proofs.mark_leaf.Tie as tie
+use Rattle.query.proofs.mark_leaf.Reads as reads
+use Rattle.query.proofs.mark_leaf.Lts as lts
+use Rattle.query.proofs.admits.Reads as admits-reads
+use Rattle.query.proofs.entry_at.Reads as entry-at-reads
+use Rattle.query.proofs.mark.Reads as mark-reads
+use Rattle.query.proofs.size_of.Reads as size-of-reads
+
+abbrev Inv-loop : tie.InvT-loop
+Inv-loop table reference rows p marks₀ n i₀ marks i = (n ≡ length (page (tableIn table) p .entries)) × (i ≤ n) × (marks ≡ marked marks₀ (joined (admittedR (admitsBy rows reference)) (take i (page (tableIn table) p .entries))))
+
+abbrev μ-loop : tie.MeasureT-loop
+μ-loop table reference rows p marks₀ n i₀ marks i = n - i
+
+-- src/lib.rt:86:9
+size-of-requires : tie.Need-size-of-requires Inv-loop μ-loop
+size-of-requires c κs = search needs
+
+-- src/lib.rt:87:5
+loop-holds : tie.Need-loop-holds Inv-loop μ-loop
+unfolding marked
+loop-holds c = (c .size-of .ensures, search needs, refl)
+
+-- src/lib.rt:88:13
+entry-at-requires : tie.Need-entry-at-requires Inv-loop μ-loop
+entry-at-requires c κs = search needs
+
+-- src/lib.rt:89:12
+admits-requires : tie.Need-admits-requires Inv-loop μ-loop
+admits-requires c κs = search needs
+
+-- src/lib.rt:90:13
+mark-requires : tie.Need-mark-requires Inv-loop μ-loop
+mark-requires c κs =
+    let g = c .before .before .before .before .before .before .before .before in
+    let l = c .before .before .before .before .before .loop in
+    omega (arith, ap (λ x. x .r) (c .before .before .before .entry-at .ensures), piece-number _ _ _ (g .pre) (l .i) refl (omega arith))
+
+-- src/lib.rt:87:9
+add-i : tie.Need-add-i Inv-loop μ-loop
+add-i c = search needs
+
+-- src/lib.rt:87:5
+loop-less : tie.Need-loop-less Inv-loop μ-loop
+loop-less c = search needs
+
+-- src/lib.rt:87:5
+loop-again : tie.Need-loop-again Inv-loop μ-loop
+loop-again c =
+    let a = c .before .before .before .before .before .before .before .args in
+    let l = c .before .before .before .before .loop in
+    let e = c .before .before .entry-at in
+    let y = sym (c .before .admits .ensures) in
+    let il : l .i < length (page (tableIn (a .table .now)) (a .p) .entries) = omega arith in (
+      search needs,
+      search needs,
+      ⊎-elim
+          (λ w. w .3 ∙ leaf-hit (admitsBy (a .rows .now) (a .reference)) _ (l .i) (e .result) il (e .ensures) _ (l .marks) (l .inv .2) _ (y ∙ w .0 .taken) (w .2 .ensures))
+          (λ w. w .1 ∙ leaf-miss (admitsBy (a .rows .now) (a .reference)) _ (l .i) (e .result) il (e .ensures) _ (l .marks) (l .inv .2) (y ∙ w .0 .left))
+          (c .if1 .came),
+    )
+
+-- src/lib.rt:82:1
+returns : tie.Need-returns Inv-loop μ-loop
+returns c =
+    let a = c .before .before .before .before .args in
+    let l = c .before .loop in
+    l .inv .2 ∙ ap (marked _) (joined-all (admittedR (admitsBy (a .rows .now) (a .reference))) (page (tableIn (a .table .now)) (a .p) .entries) (l .i) (omega arith))
+
+pub mark-leaf-spec : {M : Type 1} → statement M
+mark-leaf-spec =
+    tie.close
+    (tie.spec
+    Inv-loop
+    μ-loop
+    size-of-requires
+    loop-holds
+    entry-at-requires
+    admits-requires
+    mark-requires
+    add-i
+    loop-less
+    loop-again
+    returns)

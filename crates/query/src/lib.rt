@@ -1,0 +1,354 @@
+// Queries: the listing of the admitted pieces, the opened pages, and the front part of an answer.
+use pages::PAGE_COUNT;
+use pages::PIECE_COUNT;
+use pages::ROOT;
+ghost use mathlib.Core.Path.{_≡_};
+ghost use Prim.Native.Nat.{ℕ, _+_, _*_, _≤_, _<_};
+ghost use lib.ListN.{length, getD};
+ghost use lib.Seq.{sets};
+ghost use lib.Dec.{T};
+ghost use Rattle.relations.specs.Steps.{joinedOf};
+ghost use Rattle.pages.specs.Sizes.{PAGES, PIECES, TABLE_WORDS};
+ghost use Rattle.pages.specs.Sound.{sound};
+ghost use Rattle.pages.specs.Layout.{noEntry, page, tableIn};
+ghost use Rattle.query.specs.Opening.{joined, openedUnder, openedPages};
+ghost use Rattle.query.specs.Calls.{querySound, queryCall, OpenedWords, frontOf};
+ghost use Rattle.query.specs.Steps.{SoundPage, refusalFrom, openedListed, admitsBy, opensBy, admittedR, hitsUnder, hitsFrom, MARK_BITS, withMark, marked, onesFrom, markedNumbers};
+use pages::Entry;
+use pages::Rect;
+use relations::CODES;
+
+const MARK_BITS: u32 = 64;
+
+const MARK_WORDS: usize = 16;
+
+#[repr(C)]
+pub struct Answer {
+    pub refusal: u32,
+    pub hits: u32,
+    pub opened: u32,
+}
+
+#[repr(C)]
+pub struct Opened {
+    pub refusal: u32,
+    pub count: u32,
+}
+
+// The first count words of the answer slice itself.
+pub fn front(answer: &[u16], count: usize) -> &[u16]
+    ensures { λ r. ⌜ now r ≡ frontOf (now (answer .entry)) count ⌝ }
+{
+    if count <= answer.len() {
+        &answer[..count]
+    } else {
+        &answer[..0]
+    }
+}
+
+fn wide(x: u32) -> usize
+    ensures { λ r. ⌜ r ≡ x ⌝ }
+{
+    x as usize
+}
+
+// The entry count of a page of a sound table.
+fn size_of(table: &[u32], p: usize, level: usize) -> usize
+    requires { ⌜ SoundPage (now table) p level ⌝ }
+    ensures { λ r. ⌜ r ≡ length (page (tableIn (now (table .entry))) p .entries) ⌝ }
+{
+    wide(pages::page_of(table, p)[pages::COUNT])
+}
+
+// The entry at place i of a page of a sound table.
+fn entry_at(table: &[u32], p: usize, level: usize, i: usize) -> Entry
+    requires { ⌜ SoundPage (now table) p level × (i < length (page (tableIn (now table)) p .entries)) ⌝ }
+    ensures { λ r. ⌜ r ≡ getD (page (tableIn (now (table .entry))) p .entries) i noEntry ⌝ }
+{
+    pages::entry_of(pages::page_of(table, p), i)
+}
+
+// Whether a piece's rectangle is admitted. Most fail on y, where their row is empty.
+fn admits(rows: &[u16; CODES], reference: Rect, rect: Rect) -> bool
+    ensures { λ r. ⌜ r ≡ admitsBy (now (rows .entry)) reference rect ⌝ }
+{
+    let i = relations::axis_code(rect.y1, rect.y2, reference.y1, reference.y2);
+    if rows[i - 1] == 0 {
+        return false;
+    }
+    let j = relations::axis_code(rect.x1, rect.x2, reference.x1, reference.x2);
+    relations::leaf_test(rows, i, j)
+}
+
+// Whether a page's rectangle may hold an admitted one; y first, as above.
+fn opens(below: &[u16; CODES], reference: Rect, rect: Rect) -> bool
+    ensures { λ r. ⌜ r ≡ opensBy (now (below .entry)) reference rect ⌝ }
+{
+    let cy = relations::axis_code(rect.y1, rect.y2, reference.y1, reference.y2);
+    if below[cy - 1] == 0 {
+        return false;
+    }
+    let cx = relations::axis_code(rect.x1, rect.x2, reference.x1, reference.x2);
+    relations::page_test(below, cy, cx)
+}
+
+fn mark(marks: &mut [u64; MARK_WORDS], r: u32)
+    requires { ⌜ r < PIECES ⌝ }
+    ensures { λ _. ⌜ now (marks .exit) ≡ withMark (now (marks .entry)) r ⌝ }
+{
+    let at = (r / MARK_BITS) as usize;
+    marks[at] |= 1u64 << (r % MARK_BITS);
+}
+
+// Marks the admitted pieces of a leaf.
+fn mark_leaf(
+    table: &[u32],
+    reference: Rect,
+    rows: &[u16; CODES],
+    p: usize,
+    marks: &mut [u64; MARK_WORDS],
+)
+    requires { ⌜ SoundPage (now table) p 0 ⌝ }
+    ensures { λ _. ⌜ now (marks .exit) ≡ marked (now (marks .entry)) (joined (admittedR (admitsBy (now (rows .entry)) reference)) (page (tableIn (now (table .entry))) p .entries)) ⌝ }
+{
+    let n = size_of(table, p, 0);
+    for i in 0..n {
+        let e = entry_at(table, p, 0, i);
+        if admits(rows, reference, e.rect) {
+            mark(marks, e.r);
+        }
+    }
+}
+
+// Opens page p and the pages under it that may hold an admitted piece, marks the admitted pieces met, and adds the
+// number of opened pages to `opened`.
+fn walk(
+    table: &[u32],
+    reference: Rect,
+    rows: &[u16; CODES],
+    below: &[u16; CODES],
+    level: usize,
+    p: usize,
+    marks: &mut [u64; MARK_WORDS],
+    opened: u32,
+) -> u32
+    requires { ⌜ SoundPage (now table) p level × (opened + length (openedUnder (opensBy (now below) reference) (tableIn (now table) .pages) level p) ≤ PAGES) ⌝ }
+    ensures { λ r. ⌜ (r ≡ opened + length (openedUnder (opensBy (now (below .entry)) reference) (tableIn (now (table .entry)) .pages) level p))
+        × (now (marks .exit) ≡ marked (now (marks .entry)) (hitsUnder (admitsBy (now (rows .entry)) reference) (opensBy (now (below .entry)) reference) (tableIn (now (table .entry)) .pages) level p)) ⌝ }
+{
+    let mut count: u32 = opened + 1;
+    if level == 0 {
+        mark_leaf(table, reference, rows, p, marks);
+        return count;
+    }
+    let n = size_of(table, p, level);
+    for i in 0..n {
+        let e = entry_at(table, p, level, i);
+        if opens(below, reference, e.rect) {
+            count = walk(
+                table,
+                reference,
+                rows,
+                below,
+                level - 1,
+                wide(e.r),
+                marks,
+                count,
+            );
+        }
+    }
+    count
+}
+
+// Opens page p and the pages under it that may hold an admitted piece, and writes their numbers from place `at` on.
+fn open_walk(
+    table: &[u32],
+    reference: Rect,
+    below: &[u16; CODES],
+    level: usize,
+    p: usize,
+    answer: &mut [u16],
+    at: usize,
+) -> usize
+    requires { ⌜ SoundPage (now table) p level × (at + length (openedUnder (opensBy (now below) reference) (tableIn (now table) .pages) level p) ≤ length (now answer)) ⌝ }
+    ensures { λ r. ⌜ (r ≡ at + length (openedUnder (opensBy (now (below .entry)) reference) (tableIn (now (table .entry)) .pages) level p))
+        × (now (answer .exit) ≡ sets (now (answer .entry)) at (openedUnder (opensBy (now (below .entry)) reference) (tableIn (now (table .entry)) .pages) level p)) ⌝ }
+{
+    answer[at] = p as u16;
+    let mut next: usize = at + 1;
+    if level == 0 {
+        return next;
+    }
+    let n = size_of(table, p, level);
+    for i in 0..n {
+        let e = entry_at(table, p, level, i);
+        if opens(below, reference, e.rect) {
+            next = open_walk(table, reference, below, level - 1, wide(e.r), answer, next);
+        }
+    }
+    next
+}
+
+// Writes the numbers that one word marks, from place `at` on.
+fn list_word(word: u64, base: usize, answer: &mut [u16], at: usize) -> usize
+    requires { ⌜ (base + MARK_BITS ≤ PIECES) × (at + length (onesFrom base MARK_BITS word) ≤ length (now answer)) ⌝ }
+    ensures { λ r. ⌜ (r ≡ at + length (onesFrom base MARK_BITS word)) × (now (answer .exit) ≡ sets (now (answer .entry)) at (onesFrom base MARK_BITS word)) ⌝ }
+{
+    let mut rest: u64 = word;
+    let mut next: usize = at;
+    while rest != 0 {
+        let bit = u64::trailing_zeros(rest);
+        answer[next] = (base + bit as usize) as u16;
+        next += 1;
+        rest -= 1u64 << bit;
+    }
+    next
+}
+
+// Writes the marked numbers, rising.
+fn list_marks(marks: &[u64; MARK_WORDS], answer: &mut [u16]) -> usize
+    requires { ⌜ length (markedNumbers (now marks)) ≤ length (now answer) ⌝ }
+    ensures { λ r. ⌜ (r ≡ length (markedNumbers (now (marks .entry)))) × (now (answer .exit) ≡ sets (now (answer .entry)) 0 (markedNumbers (now (marks .entry)))) ⌝ }
+{
+    let mut next: usize = 0;
+    for w in 0..MARK_WORDS {
+        next = list_word(marks[w], MARK_BITS as usize * w, answer, next);
+    }
+    next
+}
+
+// The page number of the root of a sound table.
+fn root_of(table: &[u32]) -> usize
+    requires { ⌜ (TABLE_WORDS ≤ length (now table)) × T (sound (now table)) ⌝ }
+    ensures { λ r. ⌜ r ≡ tableIn (now (table .entry)) .root ⌝ }
+{
+    wide(table[ROOT])
+}
+
+fn level_of(table: &[u32], p: usize) -> usize
+    requires { ⌜ (TABLE_WORDS ≤ length (now table)) × T (sound (now table)) × (p < length (tableIn (now table) .pages)) ⌝ }
+    ensures { λ r. ⌜ r ≡ page (tableIn (now (table .entry))) p .level ⌝ }
+{
+    wide(pages::page_of(table, p)[pages::LEVEL])
+}
+
+// Walks from the root: marks the admitted pieces, and gives the number of opened pages.
+fn search(table: &[u32], reference: Rect, rows: &[u16; CODES], marks: &mut [u64; MARK_WORDS]) -> u32
+    requires { ⌜ (TABLE_WORDS ≤ length (now table)) × T (sound (now table)) ⌝ }
+    ensures { λ r. ⌜ (r ≡ length (openedPages (opensBy (joinedOf (now (rows .entry))) reference) (tableIn (now (table .entry)))))
+        × (now (marks .exit) ≡ marked (now (marks .entry)) (hitsFrom (admitsBy (now (rows .entry)) reference) (opensBy (joinedOf (now (rows .entry))) reference) (tableIn (now (table .entry))))) ⌝ }
+{
+    let below = relations::joined(rows);
+    let root = root_of(table);
+    let level = level_of(table, root);
+    walk(table, reference, rows, &below, level, root, marks, 0)
+}
+
+// Writes the opened pages, each page before its children.
+fn list_opened(table: &[u32], reference: Rect, rows: &[u16; CODES], answer: &mut [u16]) -> usize
+    requires { ⌜ (TABLE_WORDS ≤ length (now table)) × T (sound (now table)) × (length (tableIn (now table) .pages) ≤ length (now answer)) ⌝ }
+    ensures { λ r. ⌜ (r ≡ length (openedPages (opensBy (joinedOf (now (rows .entry))) reference) (tableIn (now (table .entry)))))
+        × (now (answer .exit) ≡ sets (now (answer .entry)) 0 (openedPages (opensBy (joinedOf (now (rows .entry))) reference) (tableIn (now (table .entry))))) ⌝ }
+{
+    let below = relations::joined(rows);
+    let root = root_of(table);
+    let level = level_of(table, root);
+    open_walk(table, reference, &below, level, root, answer, 0)
+}
+
+// The refusal of a call on a sound table, where the clauses have the refusal `clauses`, the answer slice has `size` words
+// and `needed` are asked.
+fn refused(reference: Rect, clauses: u32, size: usize, needed: usize) -> u32
+    ensures { λ r. ⌜ r ≡ refusalFrom reference clauses size needed ⌝ }
+{
+    if !pages::is_valid(reference) {
+        return pages::RECTANGLE_NOT_VALID;
+    }
+    if clauses != pages::ACCEPTED {
+        return clauses;
+    }
+    if size < needed {
+        return pages::ANSWER_TOO_SHORT;
+    }
+    pages::ACCEPTED
+}
+
+// A query on a table that is known to be sound.
+pub fn query_sound(table: &[u32], reference: Rect, clauses: &[u64], answer: &mut [u16]) -> Answer
+    requires { ⌜ (TABLE_WORDS ≤ length (now table)) × T (sound (now table)) ⌝ }
+    ensures { λ r. ⌜ (r, now (answer .exit)) ≡ querySound (now (table .entry)) reference (now (clauses .entry)) (now (answer .entry)) ⌝ }
+{
+    let set = relations::admitted(clauses);
+    let refusal = refused(
+        reference,
+        set.refusal,
+        answer.len(),
+        wide(table[PIECE_COUNT]),
+    );
+    if refusal != pages::ACCEPTED {
+        return Answer {
+            refusal,
+            hits: 0,
+            opened: 0,
+        };
+    }
+    let mut marks = [0u64; MARK_WORDS];
+    let opened = search(table, reference, &set.rows, &mut marks);
+    let hits = list_marks(&marks, answer);
+    Answer {
+        refusal: pages::ACCEPTED,
+        hits: hits as u32,
+        opened,
+    }
+}
+
+// The opened pages of a table that is known to be sound, each page before its children.
+pub fn opened_sound(table: &[u32], reference: Rect, clauses: &[u64], answer: &mut [u16]) -> Opened
+    requires { ⌜ (TABLE_WORDS ≤ length (now table)) × T (sound (now table)) ⌝ }
+    ensures { λ r. ⌜ (r, now (answer .exit)) ≡ openedListed (now (table .entry)) reference (now (clauses .entry)) (now (answer .entry)) ⌝ }
+{
+    let set = relations::admitted(clauses);
+    let refusal = refused(
+        reference,
+        set.refusal,
+        answer.len(),
+        wide(table[PAGE_COUNT]),
+    );
+    if refusal != pages::ACCEPTED {
+        return Opened { refusal, count: 0 };
+    }
+    let count = list_opened(table, reference, &set.rows, answer);
+    Opened {
+        refusal: pages::ACCEPTED,
+        count: count as u32,
+    }
+}
+
+// The numbers of the admitted pieces, rising, at the start of the answer slice.
+pub fn query(table: &[u32], reference: Rect, clauses: &[u64], answer: &mut [u16]) -> Answer
+    ensures { λ r. ⌜ (r, now (answer .exit)) ≡ queryCall (now (table .entry)) reference (now (clauses .entry)) (now (answer .entry)) ⌝ }
+{
+    let checked = soundness::check(table);
+    if checked.refusal != pages::ACCEPTED {
+        return Answer {
+            refusal: checked.refusal,
+            hits: 0,
+            opened: 0,
+        };
+    }
+    query_sound(table, reference, clauses, answer)
+}
+
+// The numbers of the opened pages, in any order, at the start of the answer slice.
+pub fn opened_pages(table: &[u32], reference: Rect, clauses: &[u64], answer: &mut [u16]) -> Opened
+    ensures { λ r. ⌜ OpenedWords (now (table .entry)) reference (now (clauses .entry)) (now (answer .entry)) (now (answer .exit)) r ⌝ }
+{
+    let checked = soundness::check(table);
+    if checked.refusal != pages::ACCEPTED {
+        return Opened {
+            refusal: checked.refusal,
+            count: 0,
+        };
+    }
+    opened_sound(table, reference, clauses, answer)
+}

@@ -1,0 +1,83 @@
+-- Zero words, tested by an `or` over them: one word more, and one entry more.
+use Prim.Native.Nat.{ℕ, _+_, _*_, _≤_, _<_}
+use native.Mathlib.Omega.{arith}
+use native.Mathlib.Decide.{ℕ-discrete}
+use native.Mathlib.Numerals.{add-one}
+use mathlib.Core.Path.{_≡_, refl, sym, ap, _∙_}
+use mathlib.Core.Bool.{Bool, true, false, _&&_, and-true}
+use mathlib.Core.List.{List, [], _∷_, _++_}
+use lib.ListN.{length, getD, take, drop, drop-of-length-le}
+use lib.Seq.{take-suc, take-all, drop-cons}
+use lib.Bits.{bitOr, or-add-and, and-le-l, and-le-r, or-zero-l}
+use lib.Dec.{eqb}
+use borrow.Author.Tests.{ne-eqb}
+use Rattle.pages.specs.declared.Entry.{Entry}
+use Rattle.pages.specs.Sizes.{PAGE_HEAD, FANOUT, ENTRY_WORDS, PAGE_WORDS}
+use Rattle.pages.specs.Readers.{entryIn}
+use Rattle.pages.specs.Sound.{zeros}
+
+zeros-append : (xs ys : List ℕ) → zeros (xs ++ ys) ≡ zeros xs && zeros ys
+zeros-append [] ys = refl
+zeros-append (x ∷ xs) ys = go (eqb x 0) (zeros-append xs ys)
+  where
+    go : (b : Bool) → zeros (xs ++ ys) ≡ zeros xs && zeros ys → b && zeros (xs ++ ys) ≡ (b && zeros xs) && zeros ys
+    go true e = e
+    go false e = refl
+
+or-blank : (a x : ℕ) → eqb (bitOr a x) 0 ≡ eqb a 0 && eqb x 0
+or-blank a x = go (ℕ-discrete a 0) (ℕ-discrete x 0)
+  where
+    go : Dec (a ≡ 0) → Dec (x ≡ 0) → eqb (bitOr a x) 0 ≡ eqb a 0 && eqb x 0
+    go (yes p) (yes q) = rw (p, q)
+    go (yes p) (no q) = rw (p, or-zero-l x, ne-eqb x 0 q)
+    go (no p) q = rw (ne-eqb a 0 p, ne-eqb (bitOr a x) 0 (λ e. p (omega (arith, or-add-and a x, and-le-l a x, and-le-r a x, e))))
+
+pub blank-more : (w : List ℕ) (i a : ℕ) → i < length w → eqb a 0 ≡ zeros (take i w) → eqb (bitOr a (getD w i 0)) 0 ≡ zeros (take (i + 1) w)
+blank-more w i a l e = or-blank a (getD w i 0) ∙ (ap (λ b. b && eqb (getD w i 0) 0) e ∙ rw (add-one, take-suc w i 0 l, zeros-append, and-true))
+
+pub blank-done : (w : List ℕ) (i a : ℕ) → length w ≤ i → eqb a 0 ≡ zeros (take i w) → eqb a 0 ≡ zeros w
+blank-done w i a l e = e ∙ ap zeros (take-all i w l)
+
+-- an entry's words
+abbrev pub wordsOr : Entry → ℕ
+wordsOr e = bitOr (bitOr (bitOr (bitOr (e .rect .x1) (e .rect .y1)) (e .rect .x2)) (e .rect .y2)) (e .r)
+
+zeros-next : (w : List ℕ) (a b : ℕ) → a < length w → a + 1 ≡ b → zeros (drop a w) ≡ eqb (getD w a 0) 0 && zeros (drop b w)
+zeros-next w a b l e = rw (drop-cons w a 0 l, ← e, add-one)
+
+or-five : (a b c d e : ℕ) → eqb (bitOr (bitOr (bitOr (bitOr a b) c) d) e) 0 ≡ (((eqb a 0 && eqb b 0) && eqb c 0) && eqb d 0) && eqb e 0
+or-five a b c d e =
+    or-blank (bitOr (bitOr (bitOr a b) c) d) e
+    ∙ ap (λ x. x && eqb e 0) (or-blank (bitOr (bitOr a b) c) d ∙ ap (λ x. x && eqb d 0) (or-blank (bitOr a b) c ∙ ap (λ x. x && eqb c 0) (or-blank a b)))
+
+and-five : (a b c d e z : Bool) → a && (b && (c && (d && (e && z)))) ≡ ((((a && b) && c) && d) && e) && z
+and-five true true true true e z = refl
+and-five true true true false e z = refl
+and-five true true false d e z = refl
+and-five true false c d e z = refl
+and-five false b c d e z = refl
+
+and-two : (a b c : Bool) → a && (b && c) ≡ (a && b) && c
+and-two true b c = refl
+and-two false b c = refl
+
+zeros-entry : (w : List ℕ) (i : ℕ) → length w ≡ PAGE_WORDS → i < FANOUT → zeros (drop (PAGE_HEAD + ENTRY_WORDS * i) w) ≡ eqb (wordsOr (entryIn w i)) 0 && zeros (drop (PAGE_HEAD + ENTRY_WORDS * (i + 1)) w)
+zeros-entry w i s l =
+    let a : ℕ = PAGE_HEAD + ENTRY_WORDS * i in
+    let e : a + 4 + 1 ≡ PAGE_HEAD + ENTRY_WORDS * (i + 1) = omega arith in
+    let t : ℕ → Bool = λ j. eqb (getD w j 0) 0 in
+    zeros-next w a (a + 1) (omega arith) refl
+    ∙ (ap (λ x. t a && x) (zeros-next w (a + 1) (a + 2) (omega arith) (omega arith)
+    ∙ ap (λ x. t (a + 1) && x) (zeros-next w (a + 2) (a + 3) (omega arith) (omega arith)
+    ∙ ap (λ x. t (a + 2) && x) (zeros-next w (a + 3) (a + 4) (omega arith) (omega arith)
+    ∙ ap (λ x. t (a + 3) && x) (zeros-next w (a + 4) (PAGE_HEAD + ENTRY_WORDS * (i + 1)) (omega arith) e))))
+    ∙ (and-five (t a) (t (a + 1)) (t (a + 2)) (t (a + 3)) (t (a + 4)) (zeros (drop (PAGE_HEAD + ENTRY_WORDS * (i + 1)) w))
+    ∙ ap (λ x. x && zeros (drop (PAGE_HEAD + ENTRY_WORDS * (i + 1)) w)) (sym (or-five (getD w a 0) (getD w (a + 1) 0) (getD w (a + 2) 0) (getD w (a + 3) 0) (getD w (a + 4) 0)))))
+
+module _ (w : List ℕ) (s : length w ≡ PAGE_WORDS) (b : Bool) where
+  pub tail-more : (i any : ℕ) (e : Entry) → i < FANOUT → e ≡ entryIn w i → b ≡ eqb any 0 && zeros (drop (PAGE_HEAD + ENTRY_WORDS * i) w) → b ≡ eqb (bitOr any (wordsOr e)) 0 && zeros (drop (PAGE_HEAD + ENTRY_WORDS * (i + 1)) w)
+  tail-more i any e l q h = h ∙ (ap (λ z. eqb any 0 && z) (zeros-entry w i s l ∙ ap (λ x. eqb (wordsOr x) 0 && zeros (drop (PAGE_HEAD + ENTRY_WORDS * (i + 1)) w)) (sym q))
+      ∙ (and-two (eqb any 0) (eqb (wordsOr e) 0) (zeros (drop (PAGE_HEAD + ENTRY_WORDS * (i + 1)) w)) ∙ ap (λ x. x && zeros (drop (PAGE_HEAD + ENTRY_WORDS * (i + 1)) w)) (sym (or-blank any (wordsOr e)))))
+
+  pub tail-done : (i any : ℕ) → FANOUT ≤ i → b ≡ eqb any 0 && zeros (drop (PAGE_HEAD + ENTRY_WORDS * i) w) → eqb any 0 ≡ b
+  tail-done i any l h = sym (h ∙ (ap (λ x. eqb any 0 && zeros x) (drop-of-length-le w {i = PAGE_HEAD + ENTRY_WORDS * i} (omega arith)) ∙ and-true (eqb any 0)))

@@ -1,0 +1,12 @@
+pub mod Marks
+pub mod Blanks
+pub mod Entries
+pub mod Words
+pub mod Leaves
+pub mod Heads
+pub mod Walks
+pub mod Counts
+pub mod Trees
+pub mod Passes
+pub mod Decides
+pub mod Answers
