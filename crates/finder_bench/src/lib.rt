@@ -7,7 +7,12 @@ const RECT_WORDS: usize = 4;
 
 // Answers a query for each reference, and gives the number of all hits.
 #[no_mangle]
-pub extern "C" fn bench_queries(table: &[u32], references: &[u32], clauses: &[u64], answer: &mut [u16]) -> u64 {
+pub extern "C" fn bench_queries(
+    table: &[u32],
+    references: &[u32],
+    clauses: &[u64],
+    answer: &mut [u16],
+) -> u64 {
     let checked = soundness::check(table);
     if checked.refusal != pages::ACCEPTED {
         return 0;

@@ -15,4 +15,3 @@ pub mod Descent
 pub mod Joined
 pub mod Called
 pub mod Tested
-pub mod Refused

@@ -1,5 +1,5 @@
 -- An accepted query: the table is sound, the reference a proper rectangle. What demand 2 says of it, part by part.
-use Prim.Native.Nat.{ℕ, zero, suc, _+_, _-_, _*_, _≤_, _<_}
+use Prim.Native.Nat.{ℕ, zero, suc, _-_, _*_, _≤_, _<_}
 use native.Mathlib.Omega.{arith}
 use native.Mathlib.Decide.{ℕ-discrete, decLt}
 use native.Mathlib.Nat.{not-suc-le-zero, le-trans, le-of-eq}
@@ -16,10 +16,10 @@ use Rattle.relations.specs.Query.{admits, admittedCount}
 use Rattle.relations.proofs.Sides.{is-code, code-suc}
 use Rattle.pages.specs.declared.Rect.{Rect}
 use Rattle.pages.specs.declared.Entry.{Entry}
-use Rattle.pages.specs.Sizes.{TABLE_WORDS, PAGES}
+use Rattle.pages.specs.Sizes.{TABLE_WORDS}
 use Rattle.pages.specs.Lists.{one}
 use Rattle.pages.specs.Refusals.{ACCEPTED, TABLE_TOO_SHORT, TABLE_NOT_SOUND}
-use Rattle.pages.specs.Layout.{Page, Table, noEntry, pageAt, page, tableIn}
+use Rattle.pages.specs.Layout.{Page, noEntry, pageAt, page, tableIn}
 use Rattle.pages.specs.Sound.{sound}
 use Rattle.pages.proofs.Lists.{Every, every-at, at-every}
 use Rattle.pages.proofs.Facts.{Facts}
@@ -27,13 +27,12 @@ use Rattle.pages.proofs.Whole.{sound-in}
 use Rattle.query.specs.declared.Answer.{Answer}
 use Rattle.query.specs.Admission.{codeY, codeX, admitsRect, opens}
 use Rattle.query.specs.Opening.{joined, openedUnder, openedPages}
-use Rattle.query.specs.Listing.{listing}
 use Rattle.query.specs.Calls.{soundRefusal, noAnswer, queryListing, queryOpened, queryAnswer, querySound, queryCall, times}
 use Rattle.query.proofs.Members.{In, in-times, times-in, once-apart}
 use Rattle.query.proofs.Pieces.{PieceAt, listed-exactly, listed-rising}
 use Rattle.query.proofs.Tests.{is-true, Proper, proper, QuarterIn, quarter-rule}
 use Rattle.query.proofs.Root.{opened-once, opened-few}
-use Rattle.query.proofs.Parents.{child-inside, child-proper, opened-inside, opened-child}
+use Rattle.query.proofs.Parents.{child-proper, opened-inside, opened-child}
 use Rattle.query.proofs.Calls.{accepted}
 
 pub record Good (w : List ℕ) (q : Rect) (clauses : List ℕ) (size : ℕ) : Type 0 where

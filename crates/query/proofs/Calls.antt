@@ -1,15 +1,15 @@
 -- The answers of the calls on a sound table, refused and accepted.
-use Prim.Native.Nat.{ℕ, zero, suc, _+_, _≤_, _<_}
+use Prim.Native.Nat.{ℕ, zero, suc, _+_, _≤_}
 use native.Mathlib.Omega.{arith}
 use native.Mathlib.Nat.{le-trans, le-of-eq}
-use mathlib.Core.Path.{_≡_, refl, sym, ap, ap₂, _∙_}
+use mathlib.Core.Path.{_≡_, refl, ap, ap₂, _∙_}
 use mathlib.Core.Logic.{_≢_}
 use mathlib.Core.Bool.{Bool, true, false, not, cond}
-use mathlib.Core.List.{List, [], _∷_, _++_}
+use mathlib.Core.List.{List, _++_}
 use lib.ListN.{length, getD, drop, replicate}
 use lib.Seq.{sets, sets-eq}
 use lib.Dec.{T, ltb, eqb}
-use borrow.Author.Tests.{ltb-false, ne-eqb, eqb-true}
+use borrow.Author.Tests.{ltb-false, ne-eqb}
 use Rattle.relations.specs.declared.AdmittedSet.{AdmittedSet}
 use Rattle.relations.specs.Query.{refusalOf, rowSets, admittedOf}
 use Rattle.relations.specs.Steps.{joinedOf}
@@ -18,17 +18,15 @@ use Rattle.pages.specs.declared.Rect.{Rect}
 use Rattle.pages.specs.Sizes.{TABLE_WORDS, PAGES, PIECES}
 use Rattle.pages.specs.Rectangles.{valid}
 use Rattle.pages.specs.Refusals.{ACCEPTED, RECTANGLE_NOT_VALID, ANSWER_TOO_SHORT}
-use Rattle.pages.specs.Layout.{Table, page, tableIn}
+use Rattle.pages.specs.Layout.{tableIn}
 use Rattle.pages.specs.Sound.{sound}
-use Rattle.pages.proofs.Facts.{Facts}
 use Rattle.pages.proofs.Whole.{sound-in}
 use Rattle.pages.proofs.Counting.{pieces-few}
 use Rattle.pages.proofs.Walk.{facts-shape}
 use Rattle.query.specs.declared.Answer.{Answer}
 use Rattle.query.specs.declared.Opened.{Opened}
 use Rattle.query.specs.Admission.{admitsRect, opens}
-use Rattle.query.specs.Opening.{openedUnder, openedPages}
-use Rattle.query.specs.Listing.{listing}
+use Rattle.query.specs.Opening.{openedPages}
 use Rattle.query.specs.Calls.{soundRefusal, noAnswer, noOpened, queryListing, queryOpened, queryAnswer, querySound, openedSound}
 use Rattle.query.specs.Steps.{MARK_WORDS, refusalFrom, admitsBy, opensBy, hitsFrom, marked, markedNumbers, openedListed}
 use Rattle.query.proofs.Reading.{pages-word, count-word}

@@ -1,22 +1,16 @@
 -- Demand 2. "On every sound page table an accepted query lists exactly the pieces whose rectangle stands to the reference in a configuration that the wish admits,
 -- each one time, in rising number. Below the root, a page under an opened page is opened exactly when some rectangle within its own, with corners on
 -- quarter units, could stand in such a configuration."
-use Prim.Native.Nat.{ℕ, zero, suc, _≤_, _<_}
-use native.Mathlib.Omega.{arith}
-use mathlib.Core.Path.{_≡_, refl, sym, ap, _∙_}
+use Prim.Native.Nat.{ℕ, _≤_, _<_}
+use mathlib.Core.Path.{_≡_}
 use mathlib.Core.Logic.{_↔_, _≢_}
-use mathlib.Core.Bool.{Bool, true, false, cond, false≢true}
+use mathlib.Core.Bool.{true}
 use mathlib.Core.List.{List, [], _∷_, _++_}
 use lib.ListN.{length, getD, drop}
-use lib.Dec.{T, ltb, eqb}
-use borrow.Author.Tests.{ltb-false}
-use Rattle.relations.specs.Query.{admits, admittedCount}
+use Rattle.relations.specs.Query.{admittedCount}
 use Rattle.pages.specs.declared.Rect.{Rect}
-use Rattle.pages.specs.declared.Entry.{Entry}
-use Rattle.pages.specs.Sizes.{TABLE_WORDS}
 use Rattle.pages.specs.Refusals.{ACCEPTED}
-use Rattle.pages.specs.Layout.{Table, noEntry, page, tableIn}
-use Rattle.pages.specs.Sound.{sound}
+use Rattle.pages.specs.Layout.{noEntry, page, tableIn}
 use Rattle.query.specs.declared.Answer.{Answer}
 use Rattle.query.specs.Admission.{admitsRect}
 use Rattle.query.specs.Calls.{queryListing, queryOpened, queryCall}

@@ -1,11 +1,11 @@
 -- The walk from the root marks the listing: what it passes over holds no admitted piece. The listing is no longer than the piece count.
-use Prim.Native.Nat.{ℕ, zero, suc, _+_, _/_, _≤_, _<_}
+use Prim.Native.Nat.{ℕ, zero, suc, _/_, _≤_, _<_}
 use native.Mathlib.Omega.{arith}
 use native.Mathlib.Nat.{le-trans, le-of-eq}
 use native.Mathlib.Decide.{ℕ-discrete}
 use mathlib.Core.Path.{_≡_, refl, sym, ap, _∙_}
 use mathlib.Core.Bool.{Bool, true, false, cond}
-use mathlib.Core.List.{List, [], _∷_, _++_}
+use mathlib.Core.List.{List, [], _∷_}
 use lib.ListN.{length, replicate, length-append}
 use lib.Dec.{T, ltb, eqb}
 use Rattle.pages.specs.declared.Rect.{Rect}
@@ -13,7 +13,7 @@ use Rattle.pages.specs.declared.Entry.{Entry}
 use Rattle.pages.specs.Sizes.{PIECES}
 use Rattle.pages.specs.Lists.{one, sum, sumBelow}
 use Rattle.pages.specs.Rectangles.{valid}
-use Rattle.pages.specs.Layout.{Page, Table, noEntry, noPage, pageAt, page}
+use Rattle.pages.specs.Layout.{Page, Table, noPage, pageAt, page}
 use Rattle.pages.specs.Sound.{pieceEntries, is, stored, pieces}
 use Rattle.pages.proofs.Lists.{Every, at-every, sum-append, sum-same, sum-le, sum-length, sum-below}
 use Rattle.pages.proofs.Below.{below-same, below-le, below-none, eqb-no, eqb-sym}

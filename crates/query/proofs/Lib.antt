@@ -1,4 +1,4 @@
--- The laws that the proofs of `query` cite; `Demand2` has what is owed of the whole.
+-- The laws that the proofs of `query` cite; `Demand1` and `Demand2` have what is owed of the calls.
 pub mod Reading
 pub mod Joined
 pub mod Bits

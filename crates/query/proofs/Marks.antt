@@ -1,10 +1,9 @@
 -- What is marked is what was marked before or stands in the list; the marked numbers, word by word.
-use Prim.Native.Nat.{ℕ, zero, suc, _+_, _-_, _*_, _/_, _%_, _^_, _≤_, _<_}
+use Prim.Native.Nat.{ℕ, zero, suc, _+_, _*_, _/_, _%_, _^_, _≤_, _<_}
 use native.Mathlib.Omega.{arith}
 use native.Mathlib.Nat.{add-zero}
-use native.Mathlib.Decide.{ℕ-discrete, decLt}
-use mathlib.Core.Path.{_≡_, refl, sym, ap, ap₂, _∙_}
-use mathlib.Core.Logic.{_≢_}
+use native.Mathlib.Decide.{ℕ-discrete}
+use mathlib.Core.Path.{_≡_, refl, sym, ap, _∙_}
 use mathlib.Core.Bool.{Bool, true, false, cond, _||_}
 use mathlib.Core.List.{List, [], _∷_, _++_, append-assoc}
 use lib.ListN.{length, getD, set, replicate, length-set, length-replicate, length-append}
@@ -15,7 +14,7 @@ use borrow.Author.Tests.{lt-ltb}
 use Rattle.relations.specs.Sets.{bit}
 use Rattle.relations.proofs.Bits.{bit-half, bit-none, bit-or}
 use Rattle.pages.specs.Sizes.{PIECES}
-use Rattle.pages.specs.Lists.{one, sum}
+use Rattle.pages.specs.Lists.{one}
 use Rattle.pages.proofs.Below.{eqb-yes, eqb-no}
 use Rattle.query.specs.Listing.{rising}
 use Rattle.query.specs.Calls.{times}

@@ -1,21 +1,21 @@
 -- A page is opened as often as its parent is, where the parent's entry for it passes the page test: sums over the opened pages, by their children.
 use Prim.Native.Nat.{ℕ, zero, suc, _+_, _*_, _≤_, _<_}
 use native.Mathlib.Omega.{arith}
-use native.Mathlib.Nat.{not-suc-le-zero, le-of-suc-le-suc, mul-le-mul-left, mul-one, one-mul}
+use native.Mathlib.Nat.{not-suc-le-zero}
 use native.Mathlib.Decide.{ℕ-discrete}
 use mathlib.Core.Path.{_≡_, refl, sym, ap, _∙_}
 use mathlib.Core.Logic.{_≢_}
 use mathlib.Core.Bool.{Bool, true, false, cond}
-use mathlib.Core.List.{List, [], _∷_, _++_}
+use mathlib.Core.List.{List, [], _∷_}
 use lib.ListN.{length, getD}
 use lib.Dec.{T, eqb}
 use Rattle.pages.specs.declared.Rect.{Rect}
 use Rattle.pages.specs.declared.Entry.{Entry}
 use Rattle.pages.specs.Lists.{one, sum, sumBelow}
 use Rattle.pages.specs.Rectangles.{valid, bounds}
-use Rattle.pages.specs.Layout.{Page, Table, noEntry, noPage, pageAt, page}
+use Rattle.pages.specs.Layout.{Table, noEntry, noPage, page}
 use Rattle.pages.specs.Sound.{childEntries, is, named, fewest}
-use Rattle.pages.proofs.Lists.{Every, every-at, every-map, every-append, sum-append, sum-same, sum-le, sum-at}
+use Rattle.pages.proofs.Lists.{Every, every-at, every-map, every-append, sum-same, sum-le, sum-at}
 use Rattle.pages.proofs.Below.{eqb-yes, eqb-no, eqb-sym, below-same, below-add, below-one, below-at, below-const, sum-places}
 use Rattle.pages.proofs.Facts.{Facts}
 use Rattle.pages.proofs.Entries.{Fits, leaf-children, leaf-pieces, above-children, fits-all}

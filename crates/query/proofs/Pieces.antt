@@ -1,12 +1,12 @@
 -- A number is listed exactly when a leaf's entry holds it with an admitted rectangle.
-use Prim.Native.Nat.{ℕ, zero, suc, _≤_, _<_}
+use Prim.Native.Nat.{ℕ, _≤_, _<_}
 use native.Mathlib.Omega.{arith}
 use mathlib.Core.Path.{_≡_, refl, sym, ap, _∙_}
 use mathlib.Core.Logic.{_↔_}
 use mathlib.Core.Bool.{Bool, true, false, cond}
-use mathlib.Core.List.{List, []}
+use mathlib.Core.List.{[]}
 use lib.ListN.{length, getD}
-use lib.Dec.{T, ltb, eqb}
+use lib.Dec.{ltb}
 use borrow.Author.Tests.{lt-ltb, ltb-true, eqb-true}
 use Rattle.pages.specs.declared.Rect.{Rect}
 use Rattle.pages.specs.declared.Entry.{Entry}
@@ -19,7 +19,6 @@ use Rattle.pages.proofs.Below.{eqb-yes}
 use Rattle.pages.proofs.Facts.{Facts}
 use Rattle.pages.proofs.Entries.{leaf-pieces}
 use Rattle.query.specs.Listing.{rising, admittedAs, listing}
-use Rattle.query.specs.Calls.{times}
 use Rattle.query.proofs.Members.{In, in-times, times-in, sum-some, rising-below, rising-order, rising-times}
 
 -- c is a piece of the table and has the rectangle r

@@ -7,7 +7,6 @@ use mathlib.Core.List.{List}
 use lib.ListN.{length, getD}
 use lib.Seq.{getD-take}
 use lib.Dec.{T}
-use Rattle.pages.specs.declared.Entry.{Entry}
 use Rattle.pages.specs.Sizes.{PAGE_HEAD, ENTRY_WORDS, PAGES, PIECES, TABLE_WORDS}
 use Rattle.pages.specs.Layout.{Page, noEntry, page, encodeEntry, encodePage, encode, pageWords, tableIn}
 use Rattle.pages.specs.Sound.{sound}

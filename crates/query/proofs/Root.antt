@@ -1,15 +1,14 @@
 -- The walk opens each page at most one time, and so at most k pages; the walk from the root.
 use Prim.Native.Nat.{ℕ, zero, suc, _+_, _≤_, _<_}
 use native.Mathlib.Omega.{arith}
-use mathlib.Core.Path.{_≡_, refl, sym, ap, ap₂, _∙_}
+use mathlib.Core.Path.{_≡_, ap, ap₂, _∙_}
 use mathlib.Core.Bool.{Bool, true, false, cond}
-use mathlib.Core.List.{List, [], _∷_}
+use mathlib.Core.List.{List, []}
 use lib.ListN.{length}
 use lib.Seq.{sets}
 use lib.Dec.{T, eqb}
 use Rattle.relations.specs.Steps.{joinedOf}
 use Rattle.pages.specs.declared.Rect.{Rect}
-use Rattle.pages.specs.declared.Entry.{Entry}
 use Rattle.pages.specs.Sizes.{TABLE_WORDS, PAGES}
 use Rattle.pages.specs.Lists.{one, sum}
 use Rattle.pages.specs.Layout.{Page, Table, pageAt, page, tableIn}
@@ -19,7 +18,7 @@ use Rattle.pages.proofs.Below.{below-const}
 use Rattle.pages.proofs.Facts.{Facts}
 use Rattle.pages.proofs.Whole.{sound-in}
 use Rattle.pages.proofs.Visit.{seen, seen-root, seen-once}
-use Rattle.query.specs.Opening.{joined, openedUnder, openedPages}
+use Rattle.query.specs.Opening.{openedUnder, openedPages}
 use Rattle.query.specs.Calls.{times}
 use Rattle.query.specs.Steps.{SoundPage, admitsBy, opensBy, hitsUnder, hitsFrom, marked}
 use Rattle.query.proofs.Reading.{own-page}

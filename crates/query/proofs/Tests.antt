@@ -1,12 +1,12 @@
 -- The tests by row sets and by joined rows are those of the definitions; an admitted rectangle reaches the page that holds it.
 use Prim.Native.Nat.{ℕ, zero, suc, _-_, _<_}
 use native.Mathlib.Omega.{arith}
-use mathlib.Core.Path.{_≡_, refl, sym, ap, _∙_}
+use mathlib.Core.Path.{_≡_, refl, ap, _∙_}
 use mathlib.Core.Logic.{_↔_}
 use mathlib.Core.Bool.{Bool, true, false, _&&_, and-false, false≢true}
 use mathlib.Core.List.{List, [], _∷_}
 use lib.ListN.{getD}
-use lib.Dec.{T, leb, ltb, leb→le, ltb→lt}
+use lib.Dec.{T, leb, ltb, ltb→lt}
 use Rattle.relations.specs.Sets.{bit}
 use Rattle.relations.specs.Axis.{CODES}
 use Rattle.relations.specs.Query.{refusalOf, rowSets, answer, admittedOf}

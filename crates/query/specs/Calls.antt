@@ -1,8 +1,8 @@
 -- The query and the opened-pages call: refusals in order, what each returns, and the words of the answer slice that it leaves.
-use Prim.Native.Nat.{ℕ, zero, suc}
-use mathlib.Core.Bool.{Bool, not, cond}
+use Prim.Native.Nat.{ℕ}
+use mathlib.Core.Bool.{not, cond}
 use mathlib.Core.Path.{_≡_}
-use mathlib.Core.List.{List, [], _∷_, _++_}
+use mathlib.Core.List.{List, [], _++_}
 use lib.ListN.{length, take, drop}
 use lib.Dec.{leb, ltb, eqb}
 use Rattle.relations.specs.Query.{refusalOf}

@@ -1,5 +1,6 @@
+-- By the level: the place and the words before entry i are those of the entries passed.
 use borrow.Author.Needs.{needs}
-use Prim.Native.Nat.{_≤_, _+_, _-_}
+use Prim.Native.Nat.{_≤_, _+_, _-_, ℕ, _<_}
 use native.Mathlib.Nat.{add-zero}
 use native.Mathlib.Omega.{arith}
 use mathlib.Core.Path.{_≡_, refl, sym, ap, _∙_}
@@ -8,9 +9,8 @@ use lib.ListN.{length, length-set}
 use lib.Seq.{sets, length-sets}
 use Rattle.pages.specs.Layout.{page, tableIn}
 use Rattle.query.specs.Steps.{opensBy}
-use Rattle.query.proofs.Reading.{page-few, leaf-page, child-page, same-page}
+use Rattle.query.proofs.Reading.{page-few, child-page, same-page}
 use Rattle.query.proofs.Walking.{Writing, opened-one, opened-leaf, child-room, writing-open, writing-shut, count-end, words-end}
-use Prim.Native.Nat.{ℕ, _<_}
 use borrow.Fn.Kinds.{In}
 use borrow.Fn.PlainCycle.{Measures, is, falls, and}
 use Rattle.query.proofs.open_walk.Reads as open-walk
@@ -44,66 +44,53 @@ open-walk-Inv-loop table reference below level p answer₀ at next₀ n i₀ ans
 abbrev open-walk-μ-loop : open-walk-lts.MeasureT-loop
 open-walk-μ-loop table reference below level p answer₀ at next₀ n i₀ answer next i = n - i
 
--- src/lib.rt:168:18
 open-walk-cast-answer : (t : ℕ) → open-walk-lts.Need-cast-answer (open-walk-cs t) (open-walk-at t) open-walk.Post open-walk-Inv-loop open-walk-μ-loop
 open-walk-cast-answer t c = omega (arith, page-few _ _ _ (c .before .before .pre .1 .0))
 
--- src/lib.rt:168:5
 open-walk-mul-answer : (t : ℕ) → open-walk-lts.Need-mul-answer (open-walk-cs t) (open-walk-at t) open-walk.Post open-walk-Inv-loop open-walk-μ-loop
 open-walk-mul-answer t c = search needs
 
--- src/lib.rt:168:5
 open-walk-slice-write-answer : (t : ℕ) → open-walk-lts.Need-slice-write-answer (open-walk-cs t) (open-walk-at t) open-walk.Post open-walk-Inv-loop open-walk-μ-loop
 open-walk-slice-write-answer t c =
     let g = c .before .before in
     let a = g .args in
     omega (arith, g .pre .1 .1, opened-one (opensBy (a .below .now) (a .reference)) (tableIn (a .table .now) .pages) (a .level) (a .p))
 
--- src/lib.rt:169:27
 open-walk-add-next : (t : ℕ) → open-walk-lts.Need-add-next (open-walk-cs t) (open-walk-at t) open-walk.Post open-walk-Inv-loop open-walk-μ-loop
 open-walk-add-next t c =
     let g = c .before .before in
     let a = g .args in
     omega (arith, g .pre .1 .1, opened-one (opensBy (a .below .now) (a .reference)) (tableIn (a .table .now) .pages) (a .level) (a .p))
 
--- src/lib.rt:171:9
 open-walk-same-length : (t : ℕ) → open-walk-lts.Need-same-length (open-walk-cs t) (open-walk-at t) open-walk.Post open-walk-Inv-loop open-walk-μ-loop
 open-walk-same-length t c = search needs
 
--- src/lib.rt:171:9
 open-walk-returns : (t : ℕ) → open-walk-lts.Need-returns (open-walk-cs t) (open-walk-at t) open-walk.Post open-walk-Inv-loop open-walk-μ-loop
 open-walk-returns t c =
     let a = c .before .before .before .args in
     let e = opened-leaf (opensBy (a .below .now) (a .reference)) (tableIn (a .table .now) .pages) (a .level) (a .p) (c .if1 .taken) in
     (omega (arith, ap length e), ap (sets (a .answer .now) (a .at)) (sym e))
 
--- src/lib.rt:173:9
 open-walk-size-of-requires : (t : ℕ) → open-walk-lts.Need-size-of-requires (open-walk-cs t) (open-walk-at t) open-walk.Post open-walk-Inv-loop open-walk-μ-loop
 open-walk-size-of-requires t c κs = c .before .before .before .pre .1 .0
 
--- src/lib.rt:174:5
 open-walk-loop-holds : (t : ℕ) → open-walk-lts.Need-loop-holds (open-walk-cs t) (open-walk-at t) open-walk.Post open-walk-Inv-loop open-walk-μ-loop
 open-walk-loop-holds t c = (c .size-of .ensures, omega arith, (sym (add-zero _), refl))
 
--- src/lib.rt:175:13
 open-walk-entry-at-requires : (t : ℕ) → open-walk-lts.Need-entry-at-requires (open-walk-cs t) (open-walk-at t) open-walk.Post open-walk-Inv-loop open-walk-μ-loop
 open-walk-entry-at-requires t c κs =
     let g = c .before .before .before .before .before .before in
     (g .pre .1 .0, omega (arith, c .before .loop .inv .0))
 
--- src/lib.rt:176:12
 open-walk-opens-requires : (t : ℕ) → open-walk-lts.Need-opens-requires (open-walk-cs t) (open-walk-at t) open-walk.Post open-walk-Inv-loop open-walk-μ-loop
 open-walk-opens-requires t c κs = search needs
 
--- src/lib.rt:181:17
 open-walk-sub-open-walk : (t : ℕ) → open-walk-lts.Need-sub-open-walk (open-walk-cs t) (open-walk-at t) open-walk.Post open-walk-Inv-loop open-walk-μ-loop
 open-walk-sub-open-walk t c = search needs
 
--- src/lib.rt:182:17
 open-walk-wide-requires : (t : ℕ) → open-walk-lts.Need-wide-requires (open-walk-cs t) (open-walk-at t) open-walk.Post open-walk-Inv-loop open-walk-μ-loop
 open-walk-wide-requires t c κs = search needs
 
--- src/lib.rt:177:13
 open-walk-open-walk-requires : (t : ℕ) → open-walk-lts.Need-open-walk-requires (open-walk-cs t) (open-walk-at t) open-walk.Post open-walk-Inv-loop open-walk-μ-loop
 open-walk-open-walk-requires t c κs =
     let g = c .before .before .before .before .before .before .before .before .before .before .before in
@@ -121,15 +108,12 @@ open-walk-open-walk-requires t c κs =
       ),
     )
 
--- src/lib.rt:174:9
 open-walk-add-i : (t : ℕ) → open-walk-lts.Need-add-i (open-walk-cs t) (open-walk-at t) open-walk.Post open-walk-Inv-loop open-walk-μ-loop
 open-walk-add-i t c = search needs
 
--- src/lib.rt:174:5
 open-walk-loop-less : (t : ℕ) → open-walk-lts.Need-loop-less (open-walk-cs t) (open-walk-at t) open-walk.Post open-walk-Inv-loop open-walk-μ-loop
 open-walk-loop-less t c = search needs
 
--- src/lib.rt:174:5
 open-walk-loop-again : (t : ℕ) → open-walk-lts.Need-loop-again (open-walk-cs t) (open-walk-at t) open-walk.Post open-walk-Inv-loop open-walk-μ-loop
 open-walk-loop-again t c =
     let g = c .before .before .before .before .before .before .before .before .before in
@@ -146,11 +130,9 @@ open-walk-loop-again t c =
           (c .if2 .came),
     )
 
--- src/lib.rt:155:1
 open-walk-same-length-2 : (t : ℕ) → open-walk-lts.Need-same-length-2 (open-walk-cs t) (open-walk-at t) open-walk.Post open-walk-Inv-loop open-walk-μ-loop
 open-walk-same-length-2 t c = ap length (c .before .loop .inv .2 .1) ∙ simp (length-sets, length-set)
 
--- src/lib.rt:155:1
 open-walk-returns-2 : (t : ℕ) → open-walk-lts.Need-returns-2 (open-walk-cs t) (open-walk-at t) open-walk.Post open-walk-Inv-loop open-walk-μ-loop
 open-walk-returns-2 t c =
     let a = c .before .before .before .before .before .before .args in

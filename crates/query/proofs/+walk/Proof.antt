@@ -1,5 +1,6 @@
+-- By the level: the count and the marks before entry i are those of the entries passed.
 use borrow.Author.Needs.{needs}
-use Prim.Native.Nat.{_≤_, _+_, _-_}
+use Prim.Native.Nat.{_≤_, _+_, _-_, ℕ, _<_}
 use native.Mathlib.Nat.{add-zero}
 use native.Mathlib.Omega.{arith}
 use mathlib.Core.Path.{_≡_, refl, sym, ap, _∙_}
@@ -9,7 +10,6 @@ use Rattle.pages.specs.Layout.{page, tableIn}
 use Rattle.query.specs.Steps.{admitsBy, opensBy, marked}
 use Rattle.query.proofs.Reading.{leaf-page, child-page, same-page}
 use Rattle.query.proofs.Walking.{Marking, opened-one, opened-leaf, hits-leaf, child-room, marking-open, marking-shut, count-end, marks-end}
-use Prim.Native.Nat.{ℕ, _<_}
 use borrow.Fn.Kinds.{In}
 use borrow.Fn.PlainCycle.{Measures, is, falls, and}
 use Rattle.query.proofs.walk.Reads as walk
@@ -43,17 +43,14 @@ walk-Inv-loop table reference rows below level p marks₀ opened count₀ n i₀
 abbrev walk-μ-loop : walk-lts.MeasureT-loop
 walk-μ-loop table reference rows below level p marks₀ opened count₀ n i₀ marks count i = n - i
 
--- src/lib.rt:130:26
 walk-add-count : (t : ℕ) → walk-lts.Need-add-count (walk-cs t) (walk-at t) walk.Post walk-Inv-loop walk-μ-loop
 walk-add-count t c =
     let a = c .before .args in
     omega (arith, opened-one (opensBy (a .below .now) (a .reference)) (tableIn (a .table .now) .pages) (a .level) (a .p))
 
--- src/lib.rt:132:9
 walk-mark-leaf-requires : (t : ℕ) → walk-lts.Need-mark-leaf-requires (walk-cs t) (walk-at t) walk.Post walk-Inv-loop walk-μ-loop
 walk-mark-leaf-requires t c κs = leaf-page _ _ _ (c .before .before .before .pre .1 .0) (c .before .if1 .taken)
 
--- src/lib.rt:133:9
 walk-returns : (t : ℕ) → walk-lts.Need-returns (walk-cs t) (walk-at t) walk.Post walk-Inv-loop walk-μ-loop
 walk-returns t c =
     let a = c .before .before .before .before .args in
@@ -62,34 +59,27 @@ walk-returns t c =
       c .mark-leaf .ensures ∙ ap (marked _) (sym (hits-leaf _ _ _ (a .level) (a .p) z)),
     )
 
--- src/lib.rt:135:9
 walk-size-of-requires : (t : ℕ) → walk-lts.Need-size-of-requires (walk-cs t) (walk-at t) walk.Post walk-Inv-loop walk-μ-loop
 walk-size-of-requires t c κs = c .before .before .pre .1 .0
 
--- src/lib.rt:136:5
 walk-loop-holds : (t : ℕ) → walk-lts.Need-loop-holds (walk-cs t) (walk-at t) walk.Post walk-Inv-loop walk-μ-loop
 unfolding marked
 walk-loop-holds t c = (c .size-of .ensures, omega arith, (sym (add-zero _), refl))
 
--- src/lib.rt:137:13
 walk-entry-at-requires : (t : ℕ) → walk-lts.Need-entry-at-requires (walk-cs t) (walk-at t) walk.Post walk-Inv-loop walk-μ-loop
 walk-entry-at-requires t c κs =
     let g = c .before .before .before .before .before in
     (g .pre .1 .0, omega (arith, c .before .loop .inv .0))
 
--- src/lib.rt:138:12
 walk-opens-requires : (t : ℕ) → walk-lts.Need-opens-requires (walk-cs t) (walk-at t) walk.Post walk-Inv-loop walk-μ-loop
 walk-opens-requires t c κs = search needs
 
--- src/lib.rt:144:17
 walk-sub-walk : (t : ℕ) → walk-lts.Need-sub-walk (walk-cs t) (walk-at t) walk.Post walk-Inv-loop walk-μ-loop
 walk-sub-walk t c = search needs
 
--- src/lib.rt:145:17
 walk-wide-requires : (t : ℕ) → walk-lts.Need-wide-requires (walk-cs t) (walk-at t) walk.Post walk-Inv-loop walk-μ-loop
 walk-wide-requires t c κs = search needs
 
--- src/lib.rt:139:13
 walk-walk-requires : (t : ℕ) → walk-lts.Need-walk-requires (walk-cs t) (walk-at t) walk.Post walk-Inv-loop walk-μ-loop
 walk-walk-requires t c κs =
     let g = c .before .before .before .before .before .before .before .before .before .before in
@@ -106,15 +96,12 @@ walk-walk-requires t c κs =
       ),
     )
 
--- src/lib.rt:136:9
 walk-add-i : (t : ℕ) → walk-lts.Need-add-i (walk-cs t) (walk-at t) walk.Post walk-Inv-loop walk-μ-loop
 walk-add-i t c = search needs
 
--- src/lib.rt:136:5
 walk-loop-less : (t : ℕ) → walk-lts.Need-loop-less (walk-cs t) (walk-at t) walk.Post walk-Inv-loop walk-μ-loop
 walk-loop-less t c = search needs
 
--- src/lib.rt:136:5
 walk-loop-again : (t : ℕ) → walk-lts.Need-loop-again (walk-cs t) (walk-at t) walk.Post walk-Inv-loop walk-μ-loop
 walk-loop-again t c =
     let g = c .before .before .before .before .before .before .before .before in
@@ -131,7 +118,6 @@ walk-loop-again t c =
           (c .if2 .came),
     )
 
--- src/lib.rt:116:1
 walk-returns-2 : (t : ℕ) → walk-lts.Need-returns-2 (walk-cs t) (walk-at t) walk.Post walk-Inv-loop walk-μ-loop
 walk-returns-2 t c =
     let a = c .before .before .before .before .before .args in

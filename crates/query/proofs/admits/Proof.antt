@@ -1,3 +1,4 @@
+-- Two axis codes; where the row of the code on y is empty nothing is admitted.
 use borrow.Author.Needs.{needs}
 use Prim.Native.Nat.{_-_}
 use native.Mathlib.Omega.{arith}
@@ -9,43 +10,31 @@ use Rattle.query.specs.Steps.{admitsBy}
 use Rattle.query.proofs.Tests.{empty-row}
 use Rattle.query.proofs.admits.Statement.{statement}
 use Rattle.query.proofs.admits.Tie as tie
-use Rattle.query.proofs.admits.Reads as reads
-use Rattle.query.proofs.admits.Lts as lts
-use Rattle.relations.proofs.axis_code.Reads as axis-code-reads
-use Rattle.relations.proofs.leaf_test.Reads as leaf-test-reads
 
--- src/lib.rt:78:9
 axis-code-requires : tie.Need-axis-code-requires
 axis-code-requires c κs = search needs
 
--- src/lib.rt:79:13
 sub-if1 : tie.Need-sub-if1
 sub-if1 c = omega (arith, coded _ _ _ _ _ (c .axis-code .ensures) .low)
 
--- src/lib.rt:79:8
 mul-if1 : tie.Need-mul-if1
 mul-if1 c = omega (arith, coded _ _ _ _ _ (c .axis-code .ensures) .high)
 
--- src/lib.rt:79:8
 element-copy-out-if1 : tie.Need-element-copy-out-if1
 element-copy-out-if1 c = omega (arith, coded _ _ _ _ _ (c .axis-code .ensures) .high)
 
--- src/lib.rt:80:9
 returns : tie.Need-returns
 unfolding admitsBy
 returns c =
     let a = c .before .before .before .args in
     sym (empty-row (a .rows .now) _ _ (ap (λ x. getD (a .rows .now) (x - 1) 0) (sym (c .before .before .axis-code .ensures)) ∙ c .if1 .taken))
 
--- src/lib.rt:82:9
 axis-code-requires-2 : tie.Need-axis-code-requires-2
 axis-code-requires-2 c κs = search needs
 
--- src/lib.rt:83:5
 leaf-test-requires : tie.Need-leaf-test-requires
 leaf-test-requires c κs = (coded _ _ _ _ _ (c .before .before .before .axis-code .ensures), coded _ _ _ _ _ (c .axis-code2 .ensures))
 
--- src/lib.rt:75:1
 returns-2 : tie.Need-returns-2
 unfolding admitsBy
 returns-2 c =

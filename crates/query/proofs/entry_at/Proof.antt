@@ -1,24 +1,17 @@
-use borrow.Author.Needs.{needs}
+-- The words of a page of a sound table are its entries.
 use native.Mathlib.Omega.{arith}
 use mathlib.Core.Path.{_∙_}
 use Rattle.query.proofs.Reading.{page-few, size-most, entry-in}
 use Rattle.query.proofs.entry_at.Statement.{statement}
 use Rattle.query.proofs.entry_at.Tie as tie
-use Rattle.query.proofs.entry_at.Reads as reads
-use Rattle.query.proofs.entry_at.Lts as lts
-use Rattle.pages.proofs.entry_of.Reads as entry-of-reads
-use Rattle.pages.proofs.page_of.Reads as page-of-reads
 
--- src/lib.rt:56:21
 page-of-requires : tie.Need-page-of-requires
 page-of-requires c κs = (c .before .pre .0 .words, page-few _ _ _ (c .before .pre .0))
 
--- src/lib.rt:56:5
 entry-of-requires : tie.Need-entry-of-requires
 entry-of-requires c κs =
     (c .page-of .ensures .0, omega (arith, size-most _ _ _ (c .before .before .pre .0)))
 
--- src/lib.rt:52:1
 returns : tie.Need-returns
 returns c =
     let g = c .before .before .before in

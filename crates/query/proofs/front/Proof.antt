@@ -1,3 +1,4 @@
+-- The part is taken where it fits, and is empty otherwise.
 use borrow.Author.Needs.{needs}
 use borrow.Author.Tests.{le-leb, lt-leb}
 use native.Mathlib.Omega.{arith}
@@ -5,23 +6,17 @@ use lib.ListN.{length-take}
 use Rattle.query.specs.Calls.{frontOf}
 use Rattle.query.proofs.front.Statement.{statement}
 use Rattle.query.proofs.front.Tie as tie
-use Rattle.query.proofs.front.Reads as reads
-use Rattle.query.proofs.front.Lts as lts
 
--- src/lib.rt:37:9
 slice-aggregate-result : tie.Need-slice-aggregate-result
 slice-aggregate-result c = simp length-take (omega arith)
 
--- src/lib.rt:39:9
 slice-aggregate-result-2 : tie.Need-slice-aggregate-result-2
 slice-aggregate-result-2 c = search needs
 
--- src/lib.rt:33:1
 returns : tie.Need-returns
 unfolding frontOf
 returns c = simp (le-leb _ _ (c .before .if1 .taken))
 
--- src/lib.rt:33:1
 returns-2 : tie.Need-returns-2
 unfolding frontOf
 returns-2 c = simp (lt-leb _ _ (c .before .if1 .left))

@@ -1,3 +1,4 @@
+-- Before word w the numbers below 64 w are written.
 use borrow.Author.Needs.{needs}
 use Prim.Native.Nat.{_≤_, _-_}
 use native.Mathlib.Omega.{arith}
@@ -8,9 +9,6 @@ use Rattle.query.specs.Steps.{MARK_WORDS}
 use Rattle.query.proofs.Marks.{Listing, marks-room, listing-none, listing-word, listing-all}
 use Rattle.query.proofs.list_marks.Statement.{statement}
 use Rattle.query.proofs.list_marks.Tie as tie
-use Rattle.query.proofs.list_marks.Reads as reads
-use Rattle.query.proofs.list_marks.Lts as lts
-use Rattle.query.proofs.list_word.Reads as list-word-reads
 
 abbrev Inv-loop : tie.InvT-loop
 Inv-loop marks answer₀ next₀ w₀ answer next w = (w ≤ MARK_WORDS) × (length answer ≡ length answer₀) × Listing marks w next answer₀ answer
@@ -18,41 +16,32 @@ Inv-loop marks answer₀ next₀ w₀ answer next w = (w ≤ MARK_WORDS) × (len
 abbrev μ-loop : tie.MeasureT-loop
 μ-loop marks answer₀ next₀ w₀ answer next w = MARK_WORDS - w
 
--- src/lib.rt:193:5
 loop-holds : tie.Need-loop-holds Inv-loop μ-loop
 loop-holds c = (search needs, refl, listing-none (c .before .args .marks .now) _)
 
--- src/lib.rt:194:26
 mul-list-word : tie.Need-mul-list-word Inv-loop μ-loop
 mul-list-word c = search needs
 
--- src/lib.rt:194:26
 element-copy-out-list-word : tie.Need-element-copy-out-list-word Inv-loop μ-loop
 element-copy-out-list-word c = search needs
 
--- src/lib.rt:194:36
 cast-list-word : tie.Need-cast-list-word Inv-loop μ-loop
 cast-list-word c = search needs
 
--- src/lib.rt:194:36
 mul-list-word-2 : tie.Need-mul-list-word-2 Inv-loop μ-loop
 mul-list-word-2 c = search needs
 
--- src/lib.rt:194:9
 list-word-requires : tie.Need-list-word-requires Inv-loop μ-loop
 list-word-requires c κs =
     let l = c .before .before .before .loop in
     (search needs, omega (arith, marks-room (c .before .before .before .before .before .args .marks .now) (l .w) (search needs)))
 
--- src/lib.rt:193:9
 add-w : tie.Need-add-w Inv-loop μ-loop
 add-w c = search needs
 
--- src/lib.rt:193:5
 loop-less : tie.Need-loop-less Inv-loop μ-loop
 loop-less c = search needs
 
--- src/lib.rt:193:5
 loop-again : tie.Need-loop-again Inv-loop μ-loop
 loop-again c =
     let l = c .before .before .before .before .before .before .loop in
@@ -62,11 +51,9 @@ loop-again c =
       listing-word (c .before .before .before .before .before .before .before .before .args .marks .now) (l .w) (l .next) _ _ (l .answer) _ (l .inv .2) (k .ensures),
     )
 
--- src/lib.rt:188:1
 same-length : tie.Need-same-length Inv-loop μ-loop
 same-length c = c .before .loop .inv .1
 
--- src/lib.rt:188:1
 returns : tie.Need-returns Inv-loop μ-loop
 returns c = listing-all _ (c .before .loop .w) _ _ _ (search needs) (search needs) (c .before .loop .inv .2)
 

@@ -1,30 +1,21 @@
+-- The walk starts at the root, and k words have room for it.
 use borrow.Author.Needs.{needs}
 use native.Mathlib.Nat.{le-trans}
 use Rattle.query.proofs.Root.{list-done, root-inside, root-page, root-room}
 use Rattle.query.proofs.list_opened.Statement.{statement}
 use Rattle.query.proofs.list_opened.Tie as tie
-use Rattle.query.proofs.list_opened.Reads as reads
-use Rattle.query.proofs.list_opened.Lts as lts
-use Rattle.query.proofs.level_of.Reads as level-of-reads
-use Rattle.query.proofs.open_walk.Reads as open-walk-reads
-use Rattle.query.proofs.root_of.Reads as root-of-reads
-use Rattle.relations.proofs.joined.Reads as joined-reads
 
--- src/lib.rt:262:17
 joined-requires : tie.Need-joined-requires
 joined-requires c κs = search needs
 
--- src/lib.rt:263:9
 root-of-requires : tie.Need-root-of-requires
 root-of-requires c κs = search needs
 
--- src/lib.rt:264:9
 level-of-requires : tie.Need-level-of-requires
 level-of-requires c κs =
     let g = c .before .before .before .before .pre in
     (g .0, g .1, root-inside _ (g .0) (g .1) _ 0 (c .root-of .ensures))
 
--- src/lib.rt:265:5
 open-walk-requires : tie.Need-open-walk-requires
 open-walk-requires c κs =
     let g = c .before .before .before .before .before .before .before .pre in
@@ -32,11 +23,9 @@ open-walk-requires c κs =
     let l = c .before .before .level-of .ensures in
     (root-page _ (g .0) (g .1) _ _ r l, le-trans (root-room _ (g .0) (g .1) _ _ r _ l) (g .2))
 
--- src/lib.rt:252:1
 same-length : tie.Need-same-length
 same-length c = search needs
 
--- src/lib.rt:252:1
 returns : tie.Need-returns
 returns c =
     list-done _ _ _ (c .before .before .before .before .before .before .root-of .ensures) (c .before .before .before .before .before .level-of .ensures) _ _ _ _ _ _

@@ -1,17 +1,16 @@
+-- What is still to be written, from the next place on, makes the whole.
 use borrow.Author.Needs.{needs}
-use Prim.Native.Nat.{_≤_, _<_, _+_, _-_, _^_}
+use Prim.Native.Nat.{_<_, _+_, _^_}
 use native.Mathlib.Omega.{arith}
-use mathlib.Core.Path.{_≡_, refl, ap, sym, _∙_}
+use mathlib.Core.Path.{_≡_, refl, _∙_}
 use lib.ListN.{length, length-set}
-use lib.Seq.{sets, length-sets}
+use lib.Seq.{sets}
 use lib.Count.{trailingZeros}
 use lib.Pow.{pow-pos}
 use Rattle.query.specs.Steps.{MARK_BITS, onesFrom}
 use Rattle.query.proofs.Bits.{lowest, one-shifted, low-count, low-words, low-end}
 use Rattle.query.proofs.list_word.Statement.{statement}
 use Rattle.query.proofs.list_word.Tie as tie
-use Rattle.query.proofs.list_word.Reads as reads
-use Rattle.query.proofs.list_word.Lts as lts
 
 abbrev Inv-loop : tie.InvT-loop
 Inv-loop word base answer₀ at rest₀ next₀ answer rest next = (rest < 2 ^ 64) × (length answer ≡ length answer₀) × (next + length (onesFrom base MARK_BITS rest) ≡ at + length (onesFrom base MARK_BITS word)) × (sets answer next (onesFrom base MARK_BITS rest) ≡ sets answer₀ at (onesFrom base MARK_BITS word))
@@ -19,57 +18,45 @@ Inv-loop word base answer₀ at rest₀ next₀ answer rest next = (rest < 2 ^ 6
 abbrev μ-loop : tie.MeasureT-loop
 μ-loop word base answer₀ at rest₀ next₀ answer rest next = rest
 
--- src/lib.rt:178:5
 loop-holds : tie.Need-loop-holds Inv-loop μ-loop
 loop-holds c = (search needs, refl, refl, refl)
 
--- src/lib.rt:180:32
 cast-answer : tie.Need-cast-answer Inv-loop μ-loop
 cast-answer c = omega (arith, lowest 64 _ (c .loop-test .taken) (c .before .loop .inv .0) .place)
 
--- src/lib.rt:180:25
 add-answer : tie.Need-add-answer Inv-loop μ-loop
 add-answer c = omega (arith, lowest 64 _ (c .loop-test .taken) (c .before .loop .inv .0) .place)
 
--- src/lib.rt:180:24
 cast-answer-2 : tie.Need-cast-answer-2 Inv-loop μ-loop
 cast-answer-2 c = omega (arith, lowest 64 _ (c .loop-test .taken) (c .before .loop .inv .0) .place)
 
--- src/lib.rt:180:9
 mul-answer : tie.Need-mul-answer Inv-loop μ-loop
 mul-answer c = search needs
 
--- src/lib.rt:180:9
 slice-write-answer : tie.Need-slice-write-answer Inv-loop μ-loop
 slice-write-answer c =
     let l = c .before .loop in
     omega (arith, low-count (l .rest) _ (c .loop-test .taken) (l .inv .0) refl (c .before .before .args .base) (l .next))
 
--- src/lib.rt:181:9
 add-next : tie.Need-add-next Inv-loop μ-loop
 add-next c = search needs
 
--- src/lib.rt:182:25
 cast-rest : tie.Need-cast-rest Inv-loop μ-loop
 cast-rest c = omega (arith, lowest 64 _ (c .loop-test .taken) (c .before .loop .inv .0) .place)
 
--- src/lib.rt:182:17
 shl-rest : tie.Need-shl-rest Inv-loop μ-loop
 shl-rest c = omega (arith, lowest 64 _ (c .loop-test .taken) (c .before .loop .inv .0) .place)
 
--- src/lib.rt:182:9
 sub-rest : tie.Need-sub-rest Inv-loop μ-loop
 sub-rest c =
     let e = one-shifted (trailingZeros 64 (c .before .loop .rest)) (lowest 64 _ (c .loop-test .taken) (c .before .loop .inv .0) .place) in
     omega (arith, e, lowest 64 _ (c .loop-test .taken) (c .before .loop .inv .0) .small)
 
--- src/lib.rt:178:5
 loop-less : tie.Need-loop-less Inv-loop μ-loop
 loop-less c =
     let e = one-shifted (trailingZeros 64 (c .before .loop .rest)) (lowest 64 _ (c .loop-test .taken) (c .before .loop .inv .0) .place) in
     omega (arith, e, lowest 64 _ (c .loop-test .taken) (c .before .loop .inv .0) .small, pow-pos (trailingZeros 64 (c .before .loop .rest)))
 
--- src/lib.rt:178:5
 loop-again : tie.Need-loop-again Inv-loop μ-loop
 loop-again c =
     let e = one-shifted (trailingZeros 64 (c .before .loop .rest)) (lowest 64 _ (c .loop-test .taken) (c .before .loop .inv .0) .place) in
@@ -81,11 +68,9 @@ loop-again c =
       low-words (l .rest) _ (c .loop-test .taken) (l .inv .0) e b (l .next) (l .answer) ∙ l .inv .3,
     )
 
--- src/lib.rt:172:1
 same-length : tie.Need-same-length Inv-loop μ-loop
 same-length c = c .before .loop .inv .1
 
--- src/lib.rt:172:1
 returns : tie.Need-returns Inv-loop μ-loop
 returns c = low-end _ _ _ _ _ _ (c .loop-test .left) (c .before .loop .inv .2) (c .before .loop .inv .3)
 

@@ -1,3 +1,4 @@
+-- Entry i marks its number exactly when its rectangle is admitted.
 use borrow.Author.Needs.{needs}
 use Prim.Native.Nat.{_≤_, _<_, _-_}
 use native.Mathlib.Omega.{arith}
@@ -12,12 +13,6 @@ use Rattle.query.proofs.Joined.{joined-all}
 use Rattle.query.proofs.Walking.{leaf-hit, leaf-miss}
 use Rattle.query.proofs.mark_leaf.Statement.{statement}
 use Rattle.query.proofs.mark_leaf.Tie as tie
-use Rattle.query.proofs.mark_leaf.Reads as reads
-use Rattle.query.proofs.mark_leaf.Lts as lts
-use Rattle.query.proofs.admits.Reads as admits-reads
-use Rattle.query.proofs.entry_at.Reads as entry-at-reads
-use Rattle.query.proofs.mark.Reads as mark-reads
-use Rattle.query.proofs.size_of.Reads as size-of-reads
 
 abbrev Inv-loop : tie.InvT-loop
 Inv-loop table reference rows p marks₀ n i₀ marks i = (n ≡ length (page (tableIn table) p .entries)) × (i ≤ n) × (marks ≡ marked marks₀ (joined (admittedR (admitsBy rows reference)) (take i (page (tableIn table) p .entries))))
@@ -25,39 +20,31 @@ Inv-loop table reference rows p marks₀ n i₀ marks i = (n ≡ length (page (t
 abbrev μ-loop : tie.MeasureT-loop
 μ-loop table reference rows p marks₀ n i₀ marks i = n - i
 
--- src/lib.rt:86:9
 size-of-requires : tie.Need-size-of-requires Inv-loop μ-loop
 size-of-requires c κs = search needs
 
--- src/lib.rt:87:5
 loop-holds : tie.Need-loop-holds Inv-loop μ-loop
 unfolding marked
 loop-holds c = (c .size-of .ensures, search needs, refl)
 
--- src/lib.rt:88:13
 entry-at-requires : tie.Need-entry-at-requires Inv-loop μ-loop
 entry-at-requires c κs = search needs
 
--- src/lib.rt:89:12
 admits-requires : tie.Need-admits-requires Inv-loop μ-loop
 admits-requires c κs = search needs
 
--- src/lib.rt:90:13
 mark-requires : tie.Need-mark-requires Inv-loop μ-loop
 mark-requires c κs =
     let g = c .before .before .before .before .before .before .before .before in
     let l = c .before .before .before .before .before .loop in
     omega (arith, ap (λ x. x .r) (c .before .before .before .entry-at .ensures), piece-number _ _ _ (g .pre) (l .i) refl (omega arith))
 
--- src/lib.rt:87:9
 add-i : tie.Need-add-i Inv-loop μ-loop
 add-i c = search needs
 
--- src/lib.rt:87:5
 loop-less : tie.Need-loop-less Inv-loop μ-loop
 loop-less c = search needs
 
--- src/lib.rt:87:5
 loop-again : tie.Need-loop-again Inv-loop μ-loop
 loop-again c =
     let a = c .before .before .before .before .before .before .before .args in
@@ -73,7 +60,6 @@ loop-again c =
           (c .if1 .came),
     )
 
--- src/lib.rt:82:1
 returns : tie.Need-returns Inv-loop μ-loop
 returns c =
     let a = c .before .before .before .before .args in

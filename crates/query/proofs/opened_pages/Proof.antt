@@ -1,29 +1,21 @@
+-- Check refuses, or the table is sound; the order of the walk is one of the free ones.
 use borrow.Author.Needs.{needs}
 use Rattle.query.proofs.Whole.{checked-sound, opened-unchecked, opened-listed}
 use Rattle.query.proofs.opened_pages.Statement.{statement}
 use Rattle.query.proofs.opened_pages.Tie as tie
-use Rattle.query.proofs.opened_pages.Reads as reads
-use Rattle.query.proofs.opened_pages.Lts as lts
-use Rattle.query.proofs.opened_sound.Reads as opened-sound-reads
-use Rattle.soundness.proofs.check.Reads as check-reads
 
--- src/lib.rt:345:9
 check-requires : tie.Need-check-requires
 check-requires c κs = search needs
 
--- src/lib.rt:347:9
 returns : tie.Need-returns
 returns c = opened-unchecked _ _ (c .before .before .check .ensures) _ _ _ (c .if1 .taken)
 
--- src/lib.rt:352:5
 opened-sound-requires : tie.Need-opened-sound-requires
 opened-sound-requires c κs = checked-sound _ _ (c .before .before .before .check .ensures) (c .before .if1 .left)
 
--- src/lib.rt:342:1
 same-length : tie.Need-same-length
 same-length c = search needs
 
--- src/lib.rt:342:1
 returns-2 : tie.Need-returns-2
 returns-2 c =
     let s = checked-sound _ _ (c .before .before .before .before .before .before .check .ensures) (c .before .before .before .before .if1 .left) in

@@ -1,40 +1,29 @@
+-- Refused, or the walk writes the opened pages.
 use borrow.Author.Needs.{needs}
 use native.Mathlib.Omega.{arith}
 use mathlib.Core.Path.{sym, _∙_}
 use Rattle.query.proofs.Calls.{opened-refusal, accepted, opened-refused, opened-accepted, query-opens}
 use Rattle.query.proofs.opened_sound.Statement.{statement}
 use Rattle.query.proofs.opened_sound.Tie as tie
-use Rattle.query.proofs.opened_sound.Reads as reads
-use Rattle.query.proofs.opened_sound.Lts as lts
-use Rattle.query.proofs.list_opened.Reads as list-opened-reads
-use Rattle.query.proofs.refused.Reads as refused-reads
-use Rattle.query.proofs.wide.Reads as wide-reads
-use Rattle.relations.proofs.admitted.Reads as admitted-reads
 
--- src/lib.rt:314:15
 admitted-requires : tie.Need-admitted-requires
 admitted-requires c κs = search needs
 
--- src/lib.rt:315:70
 shared-slice-read-wide : tie.Need-shared-slice-read-wide
 shared-slice-read-wide c = search needs
 
--- src/lib.rt:315:65
 wide-requires : tie.Need-wide-requires
 wide-requires c κs = search needs
 
--- src/lib.rt:315:9
 refused-requires : tie.Need-refused-requires
 refused-requires c κs = search needs
 
--- src/lib.rt:317:9
 returns : tie.Need-returns
 returns c =
     let g = c .before .before .before .before .before .before .before .before in
     let s = c .before .before .before .before .admitted .ensures in
     opened-refused _ _ _ _ _ (c .if1 .taken) (opened-refusal _ (g .pre .0) (g .pre .1) _ _ _ _ _ _ s (c .before .refused .ensures) (c .before .before .wide .ensures))
 
--- src/lib.rt:319:9
 list-opened-requires : tie.Need-list-opened-requires
 list-opened-requires c κs =
     let g = c .before .before .before .before .before .before .before .before .before .before .before in
@@ -42,7 +31,6 @@ list-opened-requires c κs =
     let e = opened-refusal _ (g .pre .0) (g .pre .1) _ _ _ _ _ _ s (c .before .before .before .before .refused .ensures) (c .before .before .before .before .before .wide .ensures) in
     (g .pre .0, g .pre .1, accepted _ _ _ _ (sym e ∙ c .before .before .before .if1 .left) .room)
 
--- src/lib.rt:322:16
 cast-t9 : tie.Need-cast-t9
 cast-t9 c =
     let g = c .before .before .before .before .before .before .before .before .before .before .before .before .before .before in
@@ -51,11 +39,9 @@ cast-t9 c =
     let k = query-opens _ (g .pre .1) _ _ _ (g .args .answer .now) s (sym e ∙ c .before .before .before .before .before .before .if1 .left) in
     omega (arith, k .small, c .before .before .list-opened .ensures .0)
 
--- src/lib.rt:310:1
 same-length : tie.Need-same-length
 same-length c = search needs
 
--- src/lib.rt:310:1
 returns-2 : tie.Need-returns-2
 returns-2 c =
     let g = c .before .before .before .before .before .before .before .before .before .before .before .before .before .before in

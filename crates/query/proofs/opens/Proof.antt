@@ -1,3 +1,4 @@
+-- Two axis codes; where the joined row of the code on y is empty nothing can stand below.
 use borrow.Author.Needs.{needs}
 use Prim.Native.Nat.{_-_}
 use native.Mathlib.Omega.{arith}
@@ -9,43 +10,31 @@ use Rattle.query.specs.Steps.{opensBy}
 use Rattle.query.proofs.Tests.{empty-below}
 use Rattle.query.proofs.opens.Statement.{statement}
 use Rattle.query.proofs.opens.Tie as tie
-use Rattle.query.proofs.opens.Reads as reads
-use Rattle.query.proofs.opens.Lts as lts
-use Rattle.relations.proofs.axis_code.Reads as axis-code-reads
-use Rattle.relations.proofs.page_test.Reads as page-test-reads
 
--- src/lib.rt:90:9
 axis-code-requires : tie.Need-axis-code-requires
 axis-code-requires c κs = search needs
 
--- src/lib.rt:91:14
 sub-if1 : tie.Need-sub-if1
 sub-if1 c = omega (arith, coded _ _ _ _ _ (c .axis-code .ensures) .low)
 
--- src/lib.rt:91:8
 mul-if1 : tie.Need-mul-if1
 mul-if1 c = omega (arith, coded _ _ _ _ _ (c .axis-code .ensures) .high)
 
--- src/lib.rt:91:8
 element-copy-out-if1 : tie.Need-element-copy-out-if1
 element-copy-out-if1 c = omega (arith, coded _ _ _ _ _ (c .axis-code .ensures) .high)
 
--- src/lib.rt:92:9
 returns : tie.Need-returns
 unfolding opensBy
 returns c =
     let a = c .before .before .before .args in
     sym (empty-below (a .below .now) _ _ (ap (λ x. getD (a .below .now) (x - 1) 0) (sym (c .before .before .axis-code .ensures)) ∙ c .if1 .taken))
 
--- src/lib.rt:94:9
 axis-code-requires-2 : tie.Need-axis-code-requires-2
 axis-code-requires-2 c κs = search needs
 
--- src/lib.rt:95:5
 page-test-requires : tie.Need-page-test-requires
 page-test-requires c κs = (coded _ _ _ _ _ (c .before .before .before .axis-code .ensures), coded _ _ _ _ _ (c .axis-code2 .ensures))
 
--- src/lib.rt:87:1
 returns-2 : tie.Need-returns-2
 unfolding opensBy
 returns-2 c =

@@ -1,49 +1,32 @@
+-- Refused, or the marks of the walk are the listing.
 use borrow.Author.Needs.{needs}
 use native.Mathlib.Omega.{arith}
-use native.Mathlib.Nat.{le-trans}
-use mathlib.Core.Path.{_≡_, sym, ap, _∙_}
-use lib.ListN.{length}
-use Rattle.query.specs.Steps.{markedNumbers}
-use Rattle.query.specs.Calls.{queryListing}
+use mathlib.Core.Path.{sym, _∙_}
 use Rattle.query.proofs.Calls.{query-refusal, query-refused, query-accepted, query-lists, query-opened}
 use Rattle.query.proofs.query_sound.Statement.{statement}
 use Rattle.query.proofs.query_sound.Tie as tie
-use Rattle.query.proofs.query_sound.Reads as reads
-use Rattle.query.proofs.query_sound.Lts as lts
-use Rattle.query.proofs.list_marks.Reads as list-marks-reads
-use Rattle.query.proofs.refused.Reads as refused-reads
-use Rattle.query.proofs.search.Reads as search-reads
-use Rattle.query.proofs.wide.Reads as wide-reads
-use Rattle.relations.proofs.admitted.Reads as admitted-reads
 
--- src/lib.rt:273:15
 admitted-requires : tie.Need-admitted-requires
 admitted-requires c κs = search needs
 
--- src/lib.rt:274:70
 shared-slice-read-wide : tie.Need-shared-slice-read-wide
 shared-slice-read-wide c = search needs
 
--- src/lib.rt:274:65
 wide-requires : tie.Need-wide-requires
 wide-requires c κs = search needs
 
--- src/lib.rt:274:9
 refused-requires : tie.Need-refused-requires
 refused-requires c κs = search needs
 
--- src/lib.rt:276:9
 returns : tie.Need-returns
 returns c =
     let g = c .before .before .before .before .before .before .before .before in
     let e = query-refusal _ (g .pre .0) (g .pre .1) _ _ _ _ _ _ (c .before .before .before .before .admitted .ensures) (c .before .refused .ensures) (c .before .before .wide .ensures) in
     query-refused _ _ _ _ _ (c .if1 .taken) e
 
--- src/lib.rt:283:9
 search-requires : tie.Need-search-requires
 search-requires c κs = search needs
 
--- src/lib.rt:284:9
 list-marks-requires : tie.Need-list-marks-requires
 list-marks-requires c κs =
     let g = c .before .before .before .before .before .before .before .before .before .before .before .before .before .before in
@@ -51,7 +34,6 @@ list-marks-requires c κs =
     let e = query-refusal _ (g .pre .0) (g .pre .1) _ _ _ _ _ _ s (c .before .before .before .before .before .before .before .refused .ensures) (c .before .before .before .before .before .before .before .before .wide .ensures) in
     query-lists _ (g .pre .1) _ _ _ (g .args .answer .now) _ s (sym e ∙ c .before .before .before .before .before .before .if1 .left) (c .before .before .search .ensures .1) .room
 
--- src/lib.rt:287:15
 cast-t11 : tie.Need-cast-t11
 cast-t11 c =
     let g = c .before .before .before .before .before .before .before .before .before .before .before .before .before .before .before .before .before in
@@ -60,11 +42,9 @@ cast-t11 c =
     let k = query-lists _ (g .pre .1) _ _ _ (g .args .answer .now) _ s (sym e ∙ c .before .before .before .before .before .before .before .before .before .if1 .left) (c .before .before .before .before .before .search .ensures .1) in
     omega (arith, k .small, c .before .before .list-marks .ensures .0)
 
--- src/lib.rt:269:1
 same-length : tie.Need-same-length
 same-length c = search needs
 
--- src/lib.rt:269:1
 returns-2 : tie.Need-returns-2
 returns-2 c =
     let g = c .before .before .before .before .before .before .before .before .before .before .before .before .before .before .before .before .before in

@@ -1,34 +1,27 @@
+-- Each test decides the chain of tests.
 use borrow.Author.Needs.{needs}
 use mathlib.Core.Path.{sym, _∙_}
 use borrow.Author.Tests.{lt-ltb, le-ltb, eq-eqb, ne-eqb, not-true, not-false}
 use Rattle.query.specs.Steps.{refusalFrom}
 use Rattle.query.proofs.refused.Statement.{statement}
 use Rattle.query.proofs.refused.Tie as tie
-use Rattle.query.proofs.refused.Reads as reads
-use Rattle.query.proofs.refused.Lts as lts
-use Rattle.pages.proofs.is_valid.Reads as is-valid-reads
 
--- src/lib.rt:256:9
 is-valid-requires : tie.Need-is-valid-requires
 is-valid-requires c κs = search needs
 
--- src/lib.rt:257:9
 returns : tie.Need-returns
 unfolding refusalFrom
 returns c = simp (sym (c .before .is-valid .ensures) ∙ not-true _ (c .if1 .taken))
 
--- src/lib.rt:260:9
 returns-2 : tie.Need-returns-2
 unfolding refusalFrom
 returns-2 c = simp (sym (c .before .before .is-valid .ensures) ∙ not-false _ (c .before .if1 .left), ne-eqb _ 0 (c .if2 .taken))
 
--- src/lib.rt:263:9
 returns-3 : tie.Need-returns-3
 unfolding refusalFrom
 returns-3 c =
     simp (sym (c .before .before .before .is-valid .ensures) ∙ not-false _ (c .before .before .if1 .left), eq-eqb _ 0 (c .before .if2 .left), lt-ltb _ _ (c .if3 .taken))
 
--- src/lib.rt:253:1
 returns-4 : tie.Need-returns-4
 unfolding refusalFrom
 returns-4 c =

@@ -1,21 +1,16 @@
+-- The root is the second word.
 use borrow.Author.Needs.{needs}
 use mathlib.Core.Path.{_∙_}
 use Rattle.query.proofs.Reading.{root-word}
 use Rattle.query.proofs.root_of.Statement.{statement}
 use Rattle.query.proofs.root_of.Tie as tie
-use Rattle.query.proofs.root_of.Reads as reads
-use Rattle.query.proofs.root_of.Lts as lts
-use Rattle.query.proofs.wide.Reads as wide-reads
 
--- src/lib.rt:224:10
 shared-slice-read-wide : tie.Need-shared-slice-read-wide
 shared-slice-read-wide c = search needs
 
--- src/lib.rt:224:5
 wide-requires : tie.Need-wide-requires
 wide-requires c κs = search needs
 
--- src/lib.rt:220:1
 returns : tie.Need-returns
 returns c =
     let g = c .before .before .before in

@@ -1,0 +1,11 @@
+pub mod Decimal
+pub mod Writing
+pub mod Reading
+pub mod Places
+pub mod Tables
+pub mod Asking
+pub mod Items
+pub mod InOrder
+pub mod Format
+pub mod Accepted
+pub mod Claimed

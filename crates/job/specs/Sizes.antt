@@ -1,0 +1,44 @@
+-- The sizes of a job and of a line, each named once.
+use Prim.Native.Nat.{ℕ}
+
+-- "reads up to 65,536 bytes"
+abbrev pub JOB_BYTES : ℕ
+JOB_BYTES = 65_536
+
+-- "little-endian 32-bit words"
+abbrev pub WORD_BYTES : ℕ
+WORD_BYTES = 4
+
+-- how many values a byte has
+abbrev pub BYTE : ℕ
+BYTE = 256
+
+-- what a one in the high word of a clause counts for
+abbrev pub HIGH : ℕ
+HIGH = 4_294_967_296
+
+-- "Pieces: number, x1, y1, x2, y2"
+abbrev pub PIECE_WORDS : ℕ
+PIECE_WORDS = 5
+
+-- "Queries: x1, y1, x2, y2, clause count, then each clause as low word, high word"
+abbrev pub QUERY_HEAD : ℕ
+QUERY_HEAD = 5
+
+-- the last word of that head
+abbrev pub CLAUSE_COUNT : ℕ
+CLAUSE_COUNT = 4
+
+abbrev pub CLAUSE_WORDS : ℕ
+CLAUSE_WORDS = 2
+
+-- the most bytes of a space and a 32-bit number, and of a space and a 16-bit number
+abbrev pub FIELD_BYTES : ℕ
+FIELD_BYTES = 11
+
+abbrev pub NUMBER_BYTES : ℕ
+NUMBER_BYTES = 6
+
+-- no line is longer
+abbrev pub LINE_BYTES : ℕ
+LINE_BYTES = 8_192

@@ -1,0 +1,90 @@
+-- `at` is where query i begins; the table stays as it is.
+use borrow.Author.Needs.{needs}
+use Prim.Native.Nat.{_-_, _≤_}
+use mathlib.Core.Path.{_≡_, _∙_}
+use native.Mathlib.Omega.{arith}
+use lib.ListN.{length}
+use Rattle.pages.specs.Sizes.{PIECES}
+use Rattle.job.specs.Words.{queryStart}
+use Rattle.job_io.proofs.Gathered.{line-room, behind}
+use Rattle.job_io.proofs.answer_queries.Statement.{statement}
+use Rattle.job_io.proofs.answer_queries.Tie as tie
+
+abbrev Inv-loop : tie.InvT-loop
+Inv-loop to bytes queries start table answer₀ out₀ gathered used₀ at₀ i₀ answer out used at i = (i ≤ queries) × (used ≤ length out) × (length out ≡ length out₀) × (length answer ≡ PIECES) × (at ≡ queryStart bytes i)
+
+abbrev μ-loop : tie.MeasureT-loop
+μ-loop to bytes queries start table answer₀ out₀ gathered used₀ at₀ i₀ answer out used at i = queries - i
+
+loop-holds : tie.Need-loop-holds Inv-loop μ-loop
+loop-holds c = (search needs, c .before .before .before .before .pre .6, search needs, c .before .before .before .before .pre .4, c .before .before .before .before .pre .2)
+
+make-room-requires : tie.Need-make-room-requires Inv-loop μ-loop
+make-room-requires c κs = (c .before .before .loop .inv .1, omega (arith, c .before .before .loop .inv .2, c .before .before .before .before .before .before .before .pre .5))
+
+same-length : tie.Need-same-length Inv-loop μ-loop
+same-length c = search needs
+
+same-length-2 : tie.Need-same-length-2 Inv-loop μ-loop
+same-length-2 c = search needs
+
+returns : tie.Need-returns Inv-loop μ-loop
+returns c = omega arith
+
+sub-answer-query : tie.Need-sub-answer-query Inv-loop μ-loop
+sub-answer-query c = search needs
+
+part-answer-query-start : tie.Need-part-answer-query-start Inv-loop μ-loop
+part-answer-query-start c = search needs
+
+part-answer-query-end : tie.Need-part-answer-query-end Inv-loop μ-loop
+part-answer-query-end c = search needs
+
+answer-query-requires : tie.Need-answer-query-requires Inv-loop μ-loop
+answer-query-requires c κs = let at = c .before .before .before .before .before .before .before .loop in (c .before .before .before .before .before .before .before .before .before .before .before .before .pre .0, omega (arith, c .before .before .before .before .before .before .loop-test .taken, c .before .before .before .before .before .before .before .before .before .before .before .before .pre .1), at .inv .4, c .before .before .before .before .before .before .before .before .before .before .before .before .pre .3, at .inv .3, line-room (at .out) (c .before .before .before .before .make-room .result .used) (c .before .before .before .before .make-room .ensures))
+
+add-used : tie.Need-add-used Inv-loop μ-loop
+add-used c = omega (arith, c .before .before .before .before .before .before .before .before .before .before .make-room .ensures, c .before .before .before .before .before .answer-query .ensures .0)
+
+add-i : tie.Need-add-i Inv-loop μ-loop
+add-i c = search needs
+
+loop-less : tie.Need-loop-less Inv-loop μ-loop
+loop-less c = search needs
+
+loop-again : tie.Need-loop-again Inv-loop μ-loop
+loop-again c = let at = c .before .before .before .before .before .before .before .before .before .before .before .before .before .loop in let call = c .before .before .before .before .before .answer-query in
+    let put = behind (at .out) (c .before .before .before .before .before .before .before .before .before .before .make-room .result .used) (c .before .before .before .before .before .before .before .before .before .before .make-room .ensures) (call .result .length) (call .last .1 .1 .1 .1 .1 .0) (length (c .before .before .before .before .before .before .before .before .before .before .before .before .before .before .before .before .before .before .args .out .now)) (call .ensures .0) (call .kept .1 .1 .1 .1 .1 .0) (at .inv .2) in
+    (omega (arith, c .before .before .before .before .before .before .before .before .before .before .before .before .loop-test .taken), put .0, put .1, call .kept .1 .1 .1 .1 .0 ∙ at .inv .3, call .ensures .2)
+
+same-length-3 : tie.Need-same-length-3 Inv-loop μ-loop
+same-length-3 c = search needs
+
+same-length-4 : tie.Need-same-length-4 Inv-loop μ-loop
+same-length-4 c = search needs
+
+returns-2 : tie.Need-returns-2 Inv-loop μ-loop
+returns-2 c = let at = c .before .loop in omega (arith, at .inv .1, at .inv .2)
+
+pub answer-queries-spec : {M : Type 1} → statement M
+answer-queries-spec =
+    tie.close
+    (tie.spec
+    Inv-loop
+    μ-loop
+    loop-holds
+    make-room-requires
+    same-length
+    same-length-2
+    returns
+    sub-answer-query
+    part-answer-query-start
+    part-answer-query-end
+    answer-query-requires
+    add-used
+    add-i
+    loop-less
+    loop-again
+    same-length-3
+    same-length-4
+    returns-2)
