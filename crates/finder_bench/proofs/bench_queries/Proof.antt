@@ -10,11 +10,6 @@ use Rattle.pages.specs.Sound.{sound}
 use Rattle.soundness.proofs.Answers.{accepted}
 use Rattle.finder_bench.proofs.bench_queries.Statement.{statement}
 use Rattle.finder_bench.proofs.bench_queries.Tie as tie
-use Rattle.finder_bench.proofs.bench_queries.Reads as reads
-use Rattle.finder_bench.proofs.bench_queries.Lts as lts
-use Rattle.query.proofs.query_sound.Reads as query-sound-reads
-use Rattle.soundness.proofs.check.Reads as check-reads
-use Rattle.std.proofs.num.wrapping_add_u64.Reads as wrapping-add-u64-reads
 
 abbrev RECT_WORDS : ℕ
 RECT_WORDS = 4
@@ -26,97 +21,74 @@ Inv-loop table references clauses answer₀ hits₀ i₀ i-end answer hits i =
 abbrev μ-loop : tie.MeasureT-loop
 μ-loop table references clauses answer₀ hits₀ i₀ i-end answer hits i = i-end - i
 
--- src/lib.rt:11:9
 check-requires : tie.Need-check-requires Inv-loop μ-loop
 check-requires c κs = search needs
 
--- src/lib.rt:13:9
 returns : tie.Need-returns Inv-loop μ-loop
 returns c = search needs
 
--- src/lib.rt:16:5
 loop-holds : tie.Need-loop-holds Inv-loop μ-loop
 loop-holds c =
     let s = accepted _ (ap (λ k. k .refusal) (sym (c .before .before .check .ensures)) ∙ c .if1 .left) in
     (search needs, mul-div-le _ 4, refl, s .0, s .1)
 
--- src/lib.rt:17:18
 mul-at : tie.Need-mul-at Inv-loop μ-loop
 mul-at c = search needs
 
--- src/lib.rt:19:17
 mul-t15 : tie.Need-mul-t15 Inv-loop μ-loop
 mul-t15 c = search needs
 
--- src/lib.rt:19:17
 shared-slice-read-t17 : tie.Need-shared-slice-read-t17 Inv-loop μ-loop
 shared-slice-read-t17 c = search needs
 
--- src/lib.rt:20:28
 add-t18 : tie.Need-add-t18 Inv-loop μ-loop
 add-t18 c = search needs
 
--- src/lib.rt:20:17
 mul-t19 : tie.Need-mul-t19 Inv-loop μ-loop
 mul-t19 c = search needs
 
--- src/lib.rt:20:17
 shared-slice-read-t21 : tie.Need-shared-slice-read-t21 Inv-loop μ-loop
 shared-slice-read-t21 c = search needs
 
--- src/lib.rt:21:28
 add-t22 : tie.Need-add-t22 Inv-loop μ-loop
 add-t22 c = search needs
 
--- src/lib.rt:21:17
 mul-t23 : tie.Need-mul-t23 Inv-loop μ-loop
 mul-t23 c = search needs
 
--- src/lib.rt:21:17
 shared-slice-read-t25 : tie.Need-shared-slice-read-t25 Inv-loop μ-loop
 shared-slice-read-t25 c = search needs
 
--- src/lib.rt:22:28
 add-t26 : tie.Need-add-t26 Inv-loop μ-loop
 add-t26 c = search needs
 
--- src/lib.rt:22:17
 mul-t27 : tie.Need-mul-t27 Inv-loop μ-loop
 mul-t27 c = search needs
 
--- src/lib.rt:22:17
 shared-slice-read-t29 : tie.Need-shared-slice-read-t29 Inv-loop μ-loop
 shared-slice-read-t29 c = search needs
 
--- src/lib.rt:24:13
 query-sound-requires : tie.Need-query-sound-requires Inv-loop μ-loop
 query-sound-requires c κs = search needs
 
--- src/lib.rt:25:49
 cast-wrapping-add-u64 : tie.Need-cast-wrapping-add-u64 Inv-loop μ-loop
 cast-wrapping-add-u64 c = search needs
 
--- src/lib.rt:25:9
 wrapping-add-u64-requires : tie.Need-wrapping-add-u64-requires Inv-loop μ-loop
 wrapping-add-u64-requires c κs = search needs
 
--- src/lib.rt:16:9
 add-i : tie.Need-add-i Inv-loop μ-loop
 add-i c = search needs
 
--- src/lib.rt:16:5
 loop-less : tie.Need-loop-less Inv-loop μ-loop
 loop-less c = search needs
 
--- src/lib.rt:16:5
 loop-again : tie.Need-loop-again Inv-loop μ-loop
 loop-again c = (search needs, search needs, search needs, search needs, c .before .before .before .before .before .before .before .before .before .before .before .loop .inv .4)
 
--- src/lib.rt:9:1
 same-length : tie.Need-same-length Inv-loop μ-loop
 same-length c = search needs
 
--- src/lib.rt:9:1
 returns-2 : tie.Need-returns-2 Inv-loop μ-loop
 returns-2 c = search needs
 
