@@ -15,3 +15,4 @@ pub mod Descent
 pub mod Joined
 pub mod Called
 pub mod Tested
+pub mod Untouched
