@@ -79,7 +79,7 @@ fn question_line(name: &str, table: &[u32], question: &Question) -> String {
 }
 
 /// Numbers with one space before each.
-fn each<T: Display>(numbers: &[T]) -> String {
+pub fn each<T: Display>(numbers: &[T]) -> String {
     numbers.iter().map(|number| format!(" {number}")).collect()
 }
 
@@ -87,7 +87,15 @@ fn each<T: Display>(numbers: &[T]) -> String {
 const STOPS: [usize; 7] = [1, 8, 9, 10, 33, 100, 500];
 
 pub fn place() -> String {
-    RUNS.iter().map(run_lines).collect()
+    let mut lines = String::new();
+    for run in &RUNS {
+        let (run_lines, table) = run_lines(run);
+        lines += &run_lines;
+        for question in questions(&table, run.unit, 10) {
+            lines += &question_line(run.name, &table, &question);
+        }
+    }
+    lines
 }
 
 /// For each run:
@@ -97,9 +105,10 @@ pub fn place() -> String {
 /// after CALLS CHECKSUM                (at some stops)
 /// refusals CHECKSUM ACCEPTED n2 n3 n7 (all the returned numbers, and how many of each)
 /// end k ROOT PIECES CHECKSUM
-/// NAME ..                             (queries, as above)
 /// ```
-fn run_lines(run: &Run) -> String {
+///
+/// With the table at its end.
+pub fn run_lines(run: &Run) -> (String, Vec<u32>) {
     let calls = (run.calls)();
     let mut lines = format!("run {} {}\n", run.name, calls.len());
     let mut table = vec![0; TABLE_WORDS];
@@ -114,10 +123,7 @@ fn run_lines(run: &Run) -> String {
     let times = [0, 2, 3, 7].map(|number| returned.iter().filter(|&&r| r == number).count());
     lines += &format!("refusals {}{}\n", checksum(&returned), each(&times));
     lines += &format!("end{} {}\n", each(&table[..3]), checksum(&table));
-    for question in questions(&table, run.unit, 10) {
-        lines += &question_line(run.name, &table, &question);
-    }
-    lines
+    (lines, table)
 }
 
 pub fn calls(run: &Run) -> String {
@@ -184,7 +190,7 @@ mod tests {
     #[test]
     fn runs_fill_the_table() {
         for run in &RUNS {
-            let lines = run_lines(run);
+            let (lines, _) = run_lines(run);
             let end = lines.lines().find(|line| line.starts_with("end ")).unwrap();
             let pieces: u32 = end.split(' ').nth(3).unwrap().parse().unwrap();
             assert!(pieces > 900, "{}: {end}", run.name);

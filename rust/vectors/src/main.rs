@@ -7,6 +7,7 @@ mod formulas;
 mod jobs;
 mod lines;
 mod named;
+mod stored;
 
 use std::io::{self, Read, Write};
 use std::process::ExitCode;
@@ -25,6 +26,9 @@ vectors calls RUN      the calls of a run: NUMBER x1 y1 x2 y2
 vectors jobs           the names of the jobs
 vectors job NAME       a job's bytes
 vectors answer         what the job program prints for the bytes on standard input
+vectors check-input    what the crate check_examples reads (see stored.rs)
+vectors check-output   and what it prints
+vectors placing-output what the crate placing_examples prints
 ";
 
 fn main() -> ExitCode {
@@ -50,6 +54,9 @@ fn output(words: &[&str]) -> Option<Vec<u8>> {
         ["changes", name] => lines::changes(&named::find(name)?),
         ["list", name] => lines::list(&named::find(name)?),
         ["calls", name] => lines::calls(formulas::RUNS.iter().find(|run| run.name == name)?),
+        ["check-input"] => stored::check_input(),
+        ["check-output"] => stored::check_output(),
+        ["placing-output"] => stored::placing_output(),
         ["jobs"] => jobs::names(),
         ["job", name] => return jobs::find(name),
         ["answer"] => return Some(model::job(&standard_input())),

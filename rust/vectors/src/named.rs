@@ -5,6 +5,7 @@ use model::tables::{nine_pieces, placed, samples};
 use model::TABLE_WORDS;
 
 /// A table, and the name of the table that it is a change of.
+#[derive(Clone)]
 pub struct Named {
     pub name: String,
     pub base: String,
@@ -45,6 +46,8 @@ fn special() -> Vec<Named> {
     vec![
         named("zeros", "zeros", vec![0; TABLE_WORDS]),
         named("no-words", "zeros", vec![]),
+        named("zeros-one-word-short", "zeros", vec![0; TABLE_WORDS - 1]),
+        named("zeros-words-after", "zeros", zeros_and_one()),
         named(
             "nine-one-word-short",
             "nine",
@@ -52,6 +55,12 @@ fn special() -> Vec<Named> {
         ),
         named("nine-words-after", "nine", longer),
     ]
+}
+
+fn zeros_and_one() -> Vec<u32> {
+    let mut words = vec![0; TABLE_WORDS];
+    words.push(1);
+    words
 }
 
 pub fn find(name: &str) -> Option<Named> {
