@@ -270,6 +270,19 @@ mod tests {
     }
 
     #[test]
+    fn the_stored_files_are_this_text() {
+        let crates = concat!(env!("CARGO_MANIFEST_DIR"), "/../../crates");
+        for (file, text) in [
+            ("check_examples/stdin", check_input()),
+            ("check_examples/stdout", check_output()),
+            ("placing_examples/stdout", placing_output()),
+        ] {
+            let stored = std::fs::read_to_string(format!("{crates}/{file}"));
+            assert!(stored.expect(file) == text, "{file}");
+        }
+    }
+
+    #[test]
     fn the_input_fits_the_program() {
         assert!(check_input().len() <= 65_536);
     }
