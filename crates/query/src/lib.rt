@@ -7,7 +7,7 @@ ghost use Prim.Native.Nat.{_+_, _*_, _≤_, _<_};
 ghost use lib.ListN.{length, getD};
 ghost use lib.Seq.{sets};
 ghost use lib.Dec.{T};
-ghost use Rattle.relations.specs.Steps.{joinedOf};
+ghost use Rattle.relations.specs.Steps.{joinedOf, nodeMasks};
 ghost use Rattle.pages.specs.Sizes.{PAGES, PIECES, TABLE_WORDS};
 ghost use Rattle.pages.specs.Sound.{sound};
 ghost use Rattle.pages.specs.Layout.{noEntry, page, tableIn};
@@ -81,7 +81,8 @@ fn admits(rows: &[u16; CODES], reference: Rect, rect: Rect) -> bool
 }
 
 // Whether a page's rectangle may hold an admitted one; y first, as above.
-fn opens(below: &[u16; CODES], reference: Rect, rect: Rect) -> bool
+fn opens(below: &[u16; CODES], masks: &[u16; CODES], reference: Rect, rect: Rect) -> bool
+    requires { ⌜ now masks ≡ nodeMasks ⌝ }
     ensures { λ r. ⌜ r ≡ opensBy (now (below .entry)) reference rect ⌝ }
 {
     let cy = relations::axis_code(rect.y1, rect.y2, reference.y1, reference.y2);
@@ -89,7 +90,7 @@ fn opens(below: &[u16; CODES], reference: Rect, rect: Rect) -> bool
         return false;
     }
     let cx = relations::axis_code(rect.x1, rect.x2, reference.x1, reference.x2);
-    relations::page_test(below, cy, cx)
+    relations::page_test(below, masks, cy, cx)
 }
 
 fn mark(marks: &mut [u64; MARK_WORDS], r: u32)
@@ -127,12 +128,13 @@ fn walk(
     reference: Rect,
     rows: &[u16; CODES],
     below: &[u16; CODES],
+    masks: &[u16; CODES],
     level: usize,
     p: usize,
     marks: &mut [u64; MARK_WORDS],
     opened: u32,
 ) -> u32
-    requires { ⌜ SoundPage (now table) p level × (opened + length (openedUnder (opensBy (now below) reference) (tableIn (now table) .pages) level p) ≤ PAGES) ⌝ }
+    requires { ⌜ SoundPage (now table) p level × (opened + length (openedUnder (opensBy (now below) reference) (tableIn (now table) .pages) level p) ≤ PAGES) × (now masks ≡ nodeMasks) ⌝ }
     ensures { λ r. ⌜ (r ≡ opened + length (openedUnder (opensBy (now (below .entry)) reference) (tableIn (now (table .entry)) .pages) level p))
         × (now (marks .exit) ≡ marked (now (marks .entry)) (hitsUnder (admitsBy (now (rows .entry)) reference) (opensBy (now (below .entry)) reference) (tableIn (now (table .entry)) .pages) level p)) ⌝ }
 {
@@ -144,12 +146,13 @@ fn walk(
     let n = size_of(table, p, level);
     for i in 0..n {
         let e = entry_at(table, p, level, i);
-        if opens(below, reference, e.rect) {
+        if opens(below, masks, reference, e.rect) {
             count = walk(
                 table,
                 reference,
                 rows,
                 below,
+                masks,
                 level - 1,
                 wide(e.r),
                 marks,
@@ -165,12 +168,13 @@ fn open_walk(
     table: &[u32],
     reference: Rect,
     below: &[u16; CODES],
+    masks: &[u16; CODES],
     level: usize,
     p: usize,
     answer: &mut [u16],
     at: usize,
 ) -> usize
-    requires { ⌜ SoundPage (now table) p level × (at + length (openedUnder (opensBy (now below) reference) (tableIn (now table) .pages) level p) ≤ length (now answer)) ⌝ }
+    requires { ⌜ SoundPage (now table) p level × (at + length (openedUnder (opensBy (now below) reference) (tableIn (now table) .pages) level p) ≤ length (now answer)) × (now masks ≡ nodeMasks) ⌝ }
     ensures { λ r. ⌜ (r ≡ at + length (openedUnder (opensBy (now (below .entry)) reference) (tableIn (now (table .entry)) .pages) level p))
         × (now (answer .exit) ≡ sets (now (answer .entry)) at (openedUnder (opensBy (now (below .entry)) reference) (tableIn (now (table .entry)) .pages) level p)) ⌝ }
 {
@@ -182,8 +186,17 @@ fn open_walk(
     let n = size_of(table, p, level);
     for i in 0..n {
         let e = entry_at(table, p, level, i);
-        if opens(below, reference, e.rect) {
-            next = open_walk(table, reference, below, level - 1, wide(e.r), answer, next);
+        if opens(below, masks, reference, e.rect) {
+            next = open_walk(
+                table,
+                reference,
+                below,
+                masks,
+                level - 1,
+                wide(e.r),
+                answer,
+                next,
+            );
         }
     }
     next
@@ -239,9 +252,20 @@ fn search(table: &[u32], reference: Rect, rows: &[u16; CODES], marks: &mut [u64;
         × (now (marks .exit) ≡ marked (now (marks .entry)) (hitsFrom (admitsBy (now (rows .entry)) reference) (opensBy (joinedOf (now (rows .entry))) reference) (tableIn (now (table .entry))))) ⌝ }
 {
     let below = relations::joined(rows);
+    let masks = relations::node_masks();
     let root = root_of(table);
     let level = level_of(table, root);
-    walk(table, reference, rows, &below, level, root, marks, 0)
+    walk(
+        table,
+        reference,
+        rows,
+        &below,
+        &masks,
+        level,
+        root,
+        marks,
+        0,
+    )
 }
 
 // Writes the opened pages, each page before its children.
@@ -251,9 +275,10 @@ fn list_opened(table: &[u32], reference: Rect, rows: &[u16; CODES], answer: &mut
         × (now (answer .exit) ≡ sets (now (answer .entry)) 0 (openedPages (opensBy (joinedOf (now (rows .entry))) reference) (tableIn (now (table .entry))))) ⌝ }
 {
     let below = relations::joined(rows);
+    let masks = relations::node_masks();
     let root = root_of(table);
     let level = level_of(table, root);
-    open_walk(table, reference, &below, level, root, answer, 0)
+    open_walk(table, reference, &below, &masks, level, root, answer, 0)
 }
 
 // The refusal of a call on a sound table, where the clauses have the refusal `clauses`, the answer slice has `size` words
@@ -292,8 +317,10 @@ pub fn query_sound(table: &[u32], reference: Rect, clauses: &[u64], answer: &mut
             opened: 0,
         };
     }
+    // The rows alone are lent on, so that the count, which a query does not need, is never made.
+    let rows = set.rows;
     let mut marks = [0u64; MARK_WORDS];
-    let opened = search(table, reference, &set.rows, &mut marks);
+    let opened = search(table, reference, &rows, &mut marks);
     let hits = list_marks(&marks, answer);
     Answer {
         refusal: pages::ACCEPTED,
@@ -317,7 +344,9 @@ pub fn opened_sound(table: &[u32], reference: Rect, clauses: &[u64], answer: &mu
     if refusal != pages::ACCEPTED {
         return Opened { refusal, count: 0 };
     }
-    let count = list_opened(table, reference, &set.rows, answer);
+    // The rows alone, as for a query.
+    let rows = set.rows;
+    let count = list_opened(table, reference, &rows, answer);
     Opened {
         refusal: pages::ACCEPTED,
         count: count as u32,

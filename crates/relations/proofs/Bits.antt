@@ -3,7 +3,7 @@
 use mathlib.Core.Bool.{Bool, true, false, _&&_, _||_, false≢true}
 use mathlib.Core.List.{List}
 use mathlib.Core.Path.{_≡_, refl, sym, ap, ap₂, _∙_}
-use Prim.Native.Nat.{ℕ, zero, suc, _+_, _/_, _%_, _^_, _≤_, _<_}
+use Prim.Native.Nat.{ℕ, zero, suc, _+_, _-_, _/_, _%_, _^_, _≤_, _<_}
 use native.Mathlib.Nat.{not-suc-le-zero, pow-suc, div-one, zero-div}
 use native.Mathlib.Numerals.{one-add}
 use native.Mathlib.Decide.{ℕ-discrete}
@@ -31,6 +31,14 @@ bit-half n k = ap (λ (x : ℕ). eqb (x % 2) 1) (sym (shr-shr n 1 k ∙ ap (λ (
 pub bit-none : (k : ℕ) → bit 0 k ≡ false
 unfolding bit
 bit-none k = ap (λ (x : ℕ). eqb (x % 2) 1) (zero-div (2 ^ k))
+
+-- where nothing is left from bit t on, no further bit is one
+pub bit-above : (n t u : ℕ) → n / 2 ^ t ≡ 0 → t ≤ u → bit n u ≡ false
+unfolding bit
+bit-above n t u e l =
+    let d : t + (u - t) ≡ u = omega arith in
+    ap (λ (x : ℕ). eqb (n / 2 ^ x % 2) 1) (sym d)
+    ∙ ap (λ (x : ℕ). eqb (x % 2) 1) (sym (shr-shr n t (u - t)) ∙ ap (λ (x : ℕ). x / 2 ^ (u - t)) e ∙ zero-div (2 ^ (u - t)))
 
 digit-of : (r : ℕ) → r < 2 → r ≡ digit (eqb r 1)
 digit-of zero h = refl

@@ -1,24 +1,25 @@
 -- The page test: the joined rows say what `mayHold` says, and `mayHold` is the quarter-unit rule for rectangles.
 -- Assumes nothing.
-use mathlib.Core.Bool.{Bool, true, false, not, cond, _&&_, _||_, and-comm, false≢true}
+use mathlib.Core.Bool.{Bool, true, false, not, cond, _&&_, and-comm, false≢true, _||_}
 use mathlib.Core.List.{List}
 use mathlib.Core.Logic.{_↔_}
 use mathlib.Core.Path.{_≡_, refl, sym, ap, ap₂, _∙_}
-use Prim.Native.Nat.{ℕ, zero, suc, _+_, _-_, _*_, _^_, _≤_, _<_}
-use native.Mathlib.Nat.{lt-of-le-of-lt}
+use Prim.Native.Nat.{ℕ, zero, suc, _+_, _-_, _*_, _/_, _%_, _^_, _≤_, _<_}
+use native.Mathlib.Nat.{lt-of-le-of-lt, le-trans, le-of-eq}
 use native.Mathlib.Numerals.{add-one}
 use native.Mathlib.Omega.{arith}
-use lib.Bits.{bitAnd, bitOr, and-le-r, or-zero-r}
+use lib.Bits.{bitAnd, bitOr, and-le-r}
 use lib.Dec.{eqb}
-use lib.ListN.{getD}
+use lib.ListN.{length, getD, set, replicate}
 use borrow.Author.Tests.{eq-eqb, ne-eqb}
-use Rattle.relations.specs.Sets.{bit, someBelow}
+use Rattle.relations.specs.Sets.{bit, someBelow, listed}
 use Rattle.relations.specs.Axis.{CODES, IsCode, code}
 use Rattle.relations.specs.Query.{admits, rowSet, rowSets}
 use Rattle.relations.specs.Nodes.{inside, nodeMask, mayHold, Quarter, QuarterRect}
-use Rattle.relations.specs.Steps.{joinedTo, joinedOf, pageTest, rowsHave}
+use Rattle.relations.specs.Steps.{joinedTo, withRow, joinedOf, nodeMasks, pageTest, rowsHave}
 use Rattle.relations.proofs.Tests.{and-left, and-right, both}
-use Rattle.relations.proofs.Bits.{bit-none, bit-or, bit-and, bit-packed, packed-lt, packed-of, packed-none, none-below, none-at, some-at, some-same, some-swap, found-below, listed-at}
+use Rattle.relations.proofs.Bits.{bit-none, bit-or, bit-and, bit-packed, packed-lt, packed-of, packed-none, none-below, none-at, some-at, some-same, some-swap, found-below, listed-at, length-listed, listed-same}
+use Rattle.relations.proofs.Filled.{filled, filled-at, filled-more}
 use Rattle.relations.proofs.Sides.{is-code, code-suc, in-quarters, same-code}
 use Rattle.relations.proofs.Quarter.{quarter}
 
@@ -75,24 +76,70 @@ module _ (row cx : ℕ) where
       go false e = ap not (eq-eqb m 0 (zero-shared e)) ∙ sym e
       go true e = ap not (ne-eqb m 0 (λ z. false≢true (sym (none-shared z) ∙ e))) ∙ sym e
 
+masks-at : (c : ℕ) → IsCode c → getD nodeMasks (c - 1) 0 ≡ nodeMask c
+unfolding nodeMasks
+masks-at c i = listed-at (λ h. nodeMask (suc h)) CODES (c - 1) (omega arith) ∙ ap nodeMask (code-suc c i)
+
 -- as the source makes the page test
-pub tested : (below : List ℕ) (cy cx m : ℕ) → m ≡ nodeMask cx → not (eqb (bitAnd (getD below (cy - 1) 0) m) 0) ≡ pageTest below cy cx
+pub tested : (below masks : List ℕ) (cy cx : ℕ) → IsCode cx → masks ≡ nodeMasks → not (eqb (bitAnd (getD below (cy - 1) 0) (getD masks (cx - 1) 0)) 0) ≡ pageTest below cy cx
 unfolding pageTest both-have
-tested below cy cx m e =
-    ap (λ (x : ℕ). not (eqb (bitAnd (getD below (cy - 1) 0) x) 0)) e ∙ shared (getD below (cy - 1) 0) cx
+tested below masks cy cx i e =
+    ap (λ (x : ℕ). not (eqb (bitAnd (getD below (cy - 1) 0) x) 0)) (ap (λ (l : List ℕ). getD l (cx - 1) 0) e ∙ masks-at cx i) ∙ shared (getD below (cy - 1) 0) cx
 
--- as the source joins rows
-module _ (rows : List ℕ) (c m h : ℕ) (e : m ≡ nodeMask c) (l : h < CODES) where
-  mask-inside : bit m h ≡ inside c (suc h)
-  mask-inside = ap (λ (x : ℕ). bit x h) e ∙ bit-mask c h l
+digit-times : (row r : ℕ) → r < 2 → row * r ≡ cond (eqb r 1) row 0
+digit-times row zero l = omega arith
+digit-times row (suc zero) l = omega arith
+digit-times row (suc (suc r)) l = absurd (omega arith)
 
-  pub joined-take : bit m h ≡ true → bitOr (joinedTo rows c h) (getD rows h 0) ≡ joinedTo rows c (h + 1)
-  unfolding joinedTo
-  joined-take b = rw (add-one, ← mask-inside, b)
+times-bit : (row m h : ℕ) → row * (m / 2 ^ h % 2) ≡ cond (bit m h) row 0
+unfolding bit
+times-bit row m h = digit-times row (m / 2 ^ h % 2) (omega arith)
 
-  pub joined-skip : bit m h ≡ false → joinedTo rows c h ≡ joinedTo rows c (h + 1)
-  unfolding joinedTo
-  joined-skip b = rw (add-one, ← mask-inside, b, or-zero-r)
+pub times-le : (row m h : ℕ) → row * (m / 2 ^ h % 2) ≤ row
+times-le row m h = le-trans (le-of-eq (times-bit row m h)) (go (bit m h))
+  where
+    go : (b : Bool) → cond b row 0 ≤ row
+    go true = omega arith
+    go false = omega arith
+
+-- as the source adds the row of code h + 1 to the joined row of page code c + 1
+abbrev pub joinRow : List ℕ → ℕ → ℕ → ℕ → ℕ
+joinRow below h row k = bitOr (getD below k 0) (cond (inside (suc k) (suc h)) row 0)
+
+module _ (below : List ℕ) (h row c m : ℕ) (e : m ≡ nodeMask (suc c)) (lh : h < CODES) (lc : c < CODES) where
+  mask-inside : bit m h ≡ inside (suc c) (suc h)
+  mask-inside = ap (λ (x : ℕ). bit x h) e ∙ bit-mask (suc c) h lh
+
+  pub join-step : (now : List ℕ) → now ≡ filled (joinRow below h row) below CODES c
+      → set now c (bitOr (getD now c 0) (row * (m / 2 ^ h % 2))) ≡ filled (joinRow below h row) below CODES (c + 1)
+  join-step now q =
+      ap (λ (x : List ℕ). set x c (bitOr (getD x c 0) (row * (m / 2 ^ h % 2)))) q
+      ∙ filled-more (joinRow below h row) below CODES c _ lc
+      (ap₂ bitOr (filled-at (joinRow below h row) below CODES c lc) (times-bit row m h ∙ ap (λ (t : Bool). cond t row 0) mask-inside))
+
+-- the joined rows as far as the rows before h
+module _ (rows : List ℕ) where
+  pub partJoined : ℕ → List ℕ
+  partJoined h = listed (λ c. joinedTo rows (suc c) h) CODES
+
+  pub join-length : (h : ℕ) → length (partJoined h) ≡ CODES
+  unfolding partJoined
+  join-length h = length-listed (λ c. joinedTo rows (suc c) h) CODES
+
+  pub join-none : replicate CODES 0 ≡ partJoined 0
+  unfolding partJoined joinedTo listed
+  join-none = refl
+
+  pub join-more : (h : ℕ) → withRow (partJoined h) h (getD rows h 0) ≡ partJoined (h + 1)
+  unfolding partJoined joinedTo withRow
+  join-more h =
+      listed-same _ _ CODES
+      (λ c l. ap (λ (r : ℕ). bitOr r (cond (inside (suc c) (suc h)) (getD rows h 0) 0)) (listed-at (λ k. joinedTo rows (suc k) h) CODES c l)
+      ∙ ap (joinedTo rows (suc c)) (sym (add-one h)))
+
+  pub join-whole : partJoined CODES ≡ joinedOf rows
+  unfolding partJoined joinedOf
+  join-whole = refl
 
 module _ (rows : List ℕ) where
   -- code i can stand inside a page of code cy, and its row has bit k

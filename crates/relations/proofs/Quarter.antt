@@ -12,11 +12,12 @@ use lib.Dec.{leb, ltb, eqb}
 use lib.ListN.{getD}
 use borrow.Author.Tests.{le-leb, leb-true, ltb-true, eqb-true}
 use Rattle.relations.specs.Axis.{CODES, IsCode, lines, code}
-use Rattle.relations.specs.Sets.{bit, packed}
+use Rattle.relations.specs.Sets.{bit}
 use Rattle.relations.specs.Nodes.{inside, nodeMask, Quarter}
+use Rattle.relations.specs.Steps.{nodeMasks}
 use Rattle.relations.proofs.Tests.{allBelow, allPairs, pair-at, all-at, beq-eq, both, and-left, and-right}
-use Rattle.relations.proofs.Bits.{packed-of}
-use Rattle.relations.proofs.Sides.{below, at, above, is-code, code-suc, of-code, in-quarters}
+use Rattle.relations.proofs.Bits.{packed-of, listed-of}
+use Rattle.relations.proofs.Sides.{below, at, above, is-code, of-code, in-quarters}
 use Rattle.relations.proofs.Zones.{zone, zone-lt, zone-is, zone-mono, zone-before, feasible, by-zones, low, high, lower-zone, upper-zone}
 
 -- the masks of the source
@@ -55,12 +56,14 @@ module _ (c d : ℕ) (hc : c < CODES) (hd : d < CODES) where
   mask-small = ltb-true _ _ (and-right (Bool·beq (bit (getD masks c 0) d) (within (suc c) (suc d))) _ mask-here)
 
 -- the masks of the source are the thirteen sets
-pub mask-is : (c : ℕ) → IsCode c → getD masks (c - 1) 0 ≡ nodeMask c
+pub mask-at : (c : ℕ) → c < CODES → getD masks c 0 ≡ nodeMask (suc c)
 unfolding nodeMask
-mask-is c i =
-    packed-of (λ k. inside (suc (c - 1)) (suc k)) CODES (getD masks (c - 1) 0) (mask-small (c - 1) 0 (omega arith) (omega arith))
-    (λ k h. mask-bit (c - 1) k (omega arith) h)
-    ∙ ap (λ (n : ℕ). packed (λ k. inside n (suc k)) CODES) (code-suc c i)
+mask-at c l =
+    packed-of (λ k. inside (suc c) (suc k)) CODES (getD masks c 0) (mask-small c 0 l (omega arith)) (λ k h. mask-bit c k l h)
+
+pub masks-are : masks ≡ nodeMasks
+unfolding nodeMasks
+masks-are = listed-of (λ c. nodeMask (suc c)) CODES masks refl mask-at
 
 code-within : (c d : ℕ) → IsCode c → IsCode d → inside c d ≡ within c d
 code-within c d ic id =

@@ -3,8 +3,10 @@
 use mathlib.Core.Bool.{Bool, true, false, _&&_, and-true, and-assoc, or-false}
 use mathlib.Core.List.{List, [], _∷_, _++_}
 use mathlib.Core.Path.{_≡_, refl, sym, ap, ap₂, _∙_}
-use Prim.Native.Nat.{ℕ, suc, _+_, _/_, _%_, _^_, _≤_, _<_}
+use Prim.Native.Nat.{ℕ, zero, suc, _+_, _/_, _%_, _^_, _≤_, _<_}
+use native.Mathlib.Nat.{add-zero}
 use native.Mathlib.Numerals.{add-one}
+use native.Mathlib.Omega.{arith}
 use lib.Bits.{bitAnd, bitOr, or-zero-r}
 use lib.ListN.{length, getD, set, take, replicate}
 use lib.Seq.{take-suc, take-all}
@@ -15,7 +17,7 @@ use Rattle.relations.specs.Axis.{CODES}
 use Rattle.relations.specs.Relation.{RELATIONS, codesOf, inRelation, maskOf, setsOf}
 use Rattle.relations.specs.Query.{named, admits, rowSet, rowSets}
 use Rattle.relations.specs.Steps.{relationRow, namedRow, withRelation, cutTo}
-use Rattle.relations.proofs.Bits.{bit-packed, packed-none, packed-same, packed-or, packed-and, listed-at, length-listed, listed-same}
+use Rattle.relations.proofs.Bits.{bit-above, bit-packed, packed-none, packed-same, packed-or, packed-and, listed-at, length-listed, listed-same}
 use Rattle.relations.proofs.Filled.{filled, filled-at, filled-more, filled-skip}
 
 -- the test of the source
@@ -93,6 +95,12 @@ module _ (clause : ℕ) where
   pub part-skip : (t : ℕ) → bit clause t ≡ false → partRows t ≡ partRows (t + 1)
   unfolding partRows partRow upto someBelow
   part-skip t e = listed-same _ _ CODES (λ h _. packed-same _ _ CODES (λ k _. rw (add-one, e, or-false)))
+
+  -- a clause that names no relation from t on
+  pub part-rest : (t n : ℕ) → clause / 2 ^ t ≡ 0 → partRows t ≡ partRows (t + n)
+  part-rest t zero e = ap partRows (sym (add-zero t))
+  part-rest t (suc n) e =
+      part-rest t n e ∙ part-skip (t + n) (bit-above clause t (t + n) e (omega arith)) ∙ ap partRows (omega arith)
 
   pub part-whole : partRows RELATIONS ≡ listed (λ h. namedRow clause (suc h)) CODES
   unfolding partRows partRow upto namedRow named

@@ -10,7 +10,7 @@ use Rattle.relations.specs.Sets.{digit, bit, packed, someBelow, listed}
 use Rattle.relations.specs.Axis.{CODES}
 use Rattle.relations.specs.Relation.{inRelation}
 use Rattle.relations.specs.Query.{named}
-use Rattle.relations.specs.Nodes.{inside}
+use Rattle.relations.specs.Nodes.{inside, nodeMask}
 
 -- where a lies to b: 0 above it, 1 at it, 2 below it
 unfoldable pub sideOf : ℕ → ℕ → ℕ
@@ -37,9 +37,17 @@ unfoldable pub joinedTo : List ℕ → ℕ → ℕ → ℕ
 joinedTo rows c zero = 0
 joinedTo rows c (suc n) = bitOr (joinedTo rows c n) (cond (inside c (suc n)) (getD rows n 0) 0)
 
+-- joined rows with the row of code h + 1 added
+unfoldable pub withRow : List ℕ → ℕ → ℕ → List ℕ
+withRow below h row = listed (λ c. bitOr (getD below c 0) (cond (inside (suc c) (suc h)) row 0)) CODES
+
 -- what may stand below a page of code c on y, at place c - 1
 unfoldable pub joinedOf : List ℕ → List ℕ
 joinedOf rows = listed (λ c. joinedTo rows (suc c) CODES) CODES
+
+-- the set of page code c as a number, at place c - 1
+unfoldable pub nodeMasks : List ℕ
+nodeMasks = listed (λ c. nodeMask (suc c)) CODES
 
 -- the page test on joined rows: some code of the row of cy is in the set of cx
 unfoldable pub pageTest : List ℕ → ℕ → ℕ → Bool

@@ -7,8 +7,7 @@ ghost use Rattle.relations.specs.Sets.{total, listed};
 ghost use Rattle.relations.specs.Axis.{CODES, code, IsCode};
 ghost use Rattle.relations.specs.Relation.{setsOf};
 ghost use Rattle.relations.specs.Query.{refusalOf, admittedOf};
-ghost use Rattle.relations.specs.Nodes.{nodeMask};
-ghost use Rattle.relations.specs.Steps.{sideOf, namedRow, withRelation, cutTo, joinedTo, joinedOf, pageTest, rowsHave};
+ghost use Rattle.relations.specs.Steps.{sideOf, namedRow, withRelation, cutTo, withRow, joinedOf, nodeMasks, pageTest, rowsHave};
 
 // The codes are 1 to 13.
 pub const CODES: usize = 13;
@@ -138,6 +137,9 @@ fn clause_rows(clause: u64) -> [u16; CODES]
 {
     let mut rows = [0u16; CODES];
     for t in 0..RELATIONS {
+        if clause >> t == 0 {
+            return rows;
+        }
         if (clause >> t) % 2 == 1 {
             add_relation(&mut rows, t);
         }
@@ -213,27 +215,23 @@ pub fn admitted(clauses: &[u64]) -> AdmittedSet
     }
 }
 
-// The codes that an interval inside a page's interval of code c can have.
-fn node_mask(c: usize) -> u16
-    requires { ⌜ IsCode c ⌝ }
-    ensures { λ r. ⌜ r ≡ nodeMask c ⌝ }
+// The table of page codes, made once for each query: read by a code in the walk, a constant would be copied each time.
+pub fn node_masks() -> [u16; CODES]
+    ensures { λ r. ⌜ r ≡ nodeMasks ⌝ }
 {
-    NODE_MASKS[c - 1]
+    NODE_MASKS
 }
 
-// The union of the rows whose code can stand inside a page of code c.
-fn joined_row(rows: &[u16; CODES], c: usize) -> u16
-    requires { ⌜ IsCode c ⌝ }
-    ensures { λ r. ⌜ r ≡ joinedTo (now (rows .entry)) c CODES ⌝ }
+// Adds the row of code h + 1 to what may stand below each page code that it can stand inside: a product, so that no
+// branch is left.
+fn join_row(below: &mut [u16; CODES], h: usize, row: u16)
+    requires { ⌜ (length (now below) ≡ CODES) × (h < CODES) ⌝ }
+    ensures { λ _. ⌜ now (below .exit) ≡ withRow (now (below .entry)) h row ⌝ }
 {
-    let mask = node_mask(c);
-    let mut row: u16 = 0;
-    for h in 0..CODES {
-        if (mask >> h) % 2 == 1 {
-            row |= rows[h];
-        }
+    for c in 0..CODES {
+        let inside: u16 = (NODE_MASKS[c] >> h) % 2;
+        below[c] |= row * inside;
     }
-    row
 }
 
 // The row sets joined for each code of a page, made once for each query: the page test then looks at one row.
@@ -242,17 +240,17 @@ pub fn joined(rows: &[u16; CODES]) -> [u16; CODES]
 {
     let mut below = [0u16; CODES];
     for h in 0..CODES {
-        below[h] = joined_row(rows, h + 1);
+        join_row(&mut below, h, rows[h]);
     }
     below
 }
 
 // Whether a page of codes cy and cx can hold an admitted configuration, by the joined rows.
-pub fn page_test(below: &[u16; CODES], cy: usize, cx: usize) -> bool
-    requires { ⌜ IsCode cy × IsCode cx ⌝ }
+pub fn page_test(below: &[u16; CODES], masks: &[u16; CODES], cy: usize, cx: usize) -> bool
+    requires { ⌜ IsCode cy × IsCode cx × (now masks ≡ nodeMasks) ⌝ }
     ensures { λ r. ⌜ r ≡ pageTest (now (below .entry)) cy cx ⌝ }
 {
-    below[cy - 1] & node_mask(cx) != 0
+    below[cy - 1] & masks[cx - 1] != 0
 }
 
 // Whether configuration (i, j) is admitted, by the row sets.

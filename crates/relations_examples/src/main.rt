@@ -63,9 +63,10 @@ fn leaves(rows: &[u16; CODES]) -> usize {
 
 // How many of the 169 pairs of codes of a page the page test takes.
 fn pages(below: &[u16; CODES]) -> usize {
+    let masks = relations::node_masks();
     let mut n: usize = 0;
     for p in 0..CONFIGURATIONS {
-        if relations::page_test(below, p / CODES + 1, p % CODES + 1) {
+        if relations::page_test(below, &masks, p / CODES + 1, p % CODES + 1) {
             n += 1;
         }
     }
@@ -97,13 +98,14 @@ fn every_relation() {
 fn page(name: &[u8], clauses: &[u64], x1: u32, y1: u32, x2: u32, y2: u32) {
     let a = relations::admitted(clauses);
     let below = relations::joined(&a.rows);
+    let masks = relations::node_masks();
     let cy = relations::axis_code(y1, y2, 100, 200);
     let cx = relations::axis_code(x1, x2, 100, 200);
     text(name);
     text(b":");
     size(cy);
     size(cx);
-    size(relations::page_test(&below, cy, cx) as usize);
+    size(relations::page_test(&below, &masks, cy, cx) as usize);
     text(b"\n");
 }
 

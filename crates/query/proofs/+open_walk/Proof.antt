@@ -23,26 +23,26 @@ use Rattle.query.proofs.wide.Reads as wide-reads
 use Rattle.query.proofs.+open_walk.{statement}
 use Rattle.query.proofs.+open_walk.Tie.{close}
 
-abbrev μ-open-walk : Measures 3 open-walk-kinds.ps ℕ
-μ-open-walk κs a = a .1 .1 .1 .0
+abbrev μ-open-walk : Measures 4 open-walk-kinds.ps ℕ
+μ-open-walk κs a = a .1 .1 .1 .1 .0
 
-abbrev open-walk-at : ℕ → In 3 open-walk-kinds.ps
-open-walk-at t = and 3 open-walk-kinds.ps (is 3 open-walk-kinds.ps μ-open-walk t) open-walk.Pre
+abbrev open-walk-at : ℕ → In 4 open-walk-kinds.ps
+open-walk-at t = and 4 open-walk-kinds.ps (is 4 open-walk-kinds.ps μ-open-walk t) open-walk.Pre
 
-abbrev open-walk-below : ℕ → In 3 open-walk-kinds.ps
+abbrev open-walk-below : ℕ → In 4 open-walk-kinds.ps
 open-walk-below t =
-    and 3 open-walk-kinds.ps (falls 3 open-walk-kinds.ps _<_ μ-open-walk t) open-walk.Pre
+    and 4 open-walk-kinds.ps (falls 4 open-walk-kinds.ps _<_ μ-open-walk t) open-walk.Pre
 
 abbrev open-walk-cs : ℕ → open-walk-lts.Claims
 open-walk-cs t = (size-of-reads.Asked, size-of-reads.Learnt, entry-at-reads.Asked, entry-at-reads.Learnt, opens-reads.Asked, opens-reads.Learnt, wide-reads.Asked, wide-reads.Learnt, open-walk-below t, open-walk.Post)
 
 abbrev open-walk-Inv-loop : open-walk-lts.InvT-loop
-open-walk-Inv-loop table reference below level p answer₀ at next₀ n i₀ answer next i =
+open-walk-Inv-loop table reference below masks level p answer₀ at next₀ n i₀ answer next i =
     (n ≡ length (page (tableIn table) p .entries)) × (i ≤ n)
     × Writing (opensBy below reference) (tableIn table .pages) (level - 1) (page (tableIn table) p .entries) i (at + 1) next answer₀ answer
 
 abbrev open-walk-μ-loop : open-walk-lts.MeasureT-loop
-open-walk-μ-loop table reference below level p answer₀ at next₀ n i₀ answer next i = n - i
+open-walk-μ-loop table reference below masks level p answer₀ at next₀ n i₀ answer next i = n - i
 
 open-walk-cast-answer : (t : ℕ) → open-walk-lts.Need-cast-answer (open-walk-cs t) (open-walk-at t) open-walk.Post open-walk-Inv-loop open-walk-μ-loop
 open-walk-cast-answer t c = omega (arith, page-few _ _ _ (c .before .before .pre .1 .0))
@@ -83,7 +83,7 @@ open-walk-entry-at-requires t c κs =
     (g .pre .1 .0, omega (arith, c .before .loop .inv .0))
 
 open-walk-opens-requires : (t : ℕ) → open-walk-lts.Need-opens-requires (open-walk-cs t) (open-walk-at t) open-walk.Post open-walk-Inv-loop open-walk-μ-loop
-open-walk-opens-requires t c κs = search needs
+open-walk-opens-requires t c κs = c .before .before .before .before .before .before .before .pre .1 .2
 
 open-walk-sub-open-walk : (t : ℕ) → open-walk-lts.Need-sub-open-walk (open-walk-cs t) (open-walk-at t) open-walk.Post open-walk-Inv-loop open-walk-μ-loop
 open-walk-sub-open-walk t c = search needs
@@ -105,6 +105,7 @@ open-walk-open-walk-requires t c κs =
       (
         same-page _ _ _ _ (c .before .wide .ensures ∙ ap (λ x. x .r) (e .ensures)) (child-page _ _ _ (g .pre .1 .0) (l .i) z il),
         rw k (child-room (opensBy (a .below .now) (a .reference)) (tableIn (a .table .now) .pages) (a .level) (a .p) (l .i) (e .result) _ (c .before .wide .ensures) (a .at) (l .next) _ z il (e .ensures) y (l .inv .2 .0) (g .pre .1 .1)),
+        g .pre .1 .2,
       ),
     )
 

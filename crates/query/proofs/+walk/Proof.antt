@@ -23,25 +23,25 @@ use Rattle.query.proofs.wide.Reads as wide-reads
 use Rattle.query.proofs.+walk.{statement}
 use Rattle.query.proofs.+walk.Tie.{close}
 
-abbrev μ-walk : Measures 4 walk-kinds.ps ℕ
-μ-walk κs a = a .1 .1 .1 .1 .0
+abbrev μ-walk : Measures 5 walk-kinds.ps ℕ
+μ-walk κs a = a .1 .1 .1 .1 .1 .0
 
-abbrev walk-at : ℕ → In 4 walk-kinds.ps
-walk-at t = and 4 walk-kinds.ps (is 4 walk-kinds.ps μ-walk t) walk.Pre
+abbrev walk-at : ℕ → In 5 walk-kinds.ps
+walk-at t = and 5 walk-kinds.ps (is 5 walk-kinds.ps μ-walk t) walk.Pre
 
-abbrev walk-below : ℕ → In 4 walk-kinds.ps
-walk-below t = and 4 walk-kinds.ps (falls 4 walk-kinds.ps _<_ μ-walk t) walk.Pre
+abbrev walk-below : ℕ → In 5 walk-kinds.ps
+walk-below t = and 5 walk-kinds.ps (falls 5 walk-kinds.ps _<_ μ-walk t) walk.Pre
 
 abbrev walk-cs : ℕ → walk-lts.Claims
 walk-cs t = (mark-leaf-reads.Asked, mark-leaf-reads.Learnt, size-of-reads.Asked, size-of-reads.Learnt, entry-at-reads.Asked, entry-at-reads.Learnt, opens-reads.Asked, opens-reads.Learnt, wide-reads.Asked, wide-reads.Learnt, walk-below t, walk.Post)
 
 abbrev walk-Inv-loop : walk-lts.InvT-loop
-walk-Inv-loop table reference rows below level p marks₀ opened count₀ n i₀ marks count i =
+walk-Inv-loop table reference rows below masks level p marks₀ opened count₀ n i₀ marks count i =
     (n ≡ length (page (tableIn table) p .entries)) × (i ≤ n)
     × Marking (admitsBy rows reference) (opensBy below reference) (tableIn table .pages) (level - 1) (page (tableIn table) p .entries) i (opened + 1) count marks₀ marks
 
 abbrev walk-μ-loop : walk-lts.MeasureT-loop
-walk-μ-loop table reference rows below level p marks₀ opened count₀ n i₀ marks count i = n - i
+walk-μ-loop table reference rows below masks level p marks₀ opened count₀ n i₀ marks count i = n - i
 
 walk-add-count : (t : ℕ) → walk-lts.Need-add-count (walk-cs t) (walk-at t) walk.Post walk-Inv-loop walk-μ-loop
 walk-add-count t c =
@@ -72,7 +72,7 @@ walk-entry-at-requires t c κs =
     (g .pre .1 .0, omega (arith, c .before .loop .inv .0))
 
 walk-opens-requires : (t : ℕ) → walk-lts.Need-opens-requires (walk-cs t) (walk-at t) walk.Post walk-Inv-loop walk-μ-loop
-walk-opens-requires t c κs = search needs
+walk-opens-requires t c κs = c .before .before .before .before .before .before .pre .1 .2
 
 walk-sub-walk : (t : ℕ) → walk-lts.Need-sub-walk (walk-cs t) (walk-at t) walk.Post walk-Inv-loop walk-μ-loop
 walk-sub-walk t c = search needs
@@ -93,6 +93,7 @@ walk-walk-requires t c κs =
       (
         same-page _ _ _ _ (c .before .wide .ensures ∙ ap (λ x. x .r) (e .ensures)) (child-page _ _ _ (g .pre .1 .0) (l .i) z il),
         child-room (opensBy (a .below .now) (a .reference)) (tableIn (a .table .now) .pages) (a .level) (a .p) (l .i) (e .result) _ (c .before .wide .ensures) (a .opened) (l .count) _ z il (e .ensures) y (l .inv .2 .0) (g .pre .1 .1),
+        g .pre .1 .2,
       ),
     )
 

@@ -31,8 +31,8 @@ list-opened-requires c κs =
     let e = opened-refusal _ (g .pre .0) (g .pre .1) _ _ _ _ _ _ s (c .before .before .before .before .refused .ensures) (c .before .before .before .before .before .wide .ensures) in
     (g .pre .0, g .pre .1, accepted _ _ _ _ (sym e ∙ c .before .before .before .if1 .left) .room)
 
-cast-t9 : tie.Need-cast-t9
-cast-t9 c =
+cast-t12 : tie.Need-cast-t12
+cast-t12 c =
     let g = c .before .before .before .before .before .before .before .before .before .before .before .before .before .before in
     let s = c .before .before .before .before .before .before .before .before .before .before .admitted .ensures in
     let e = opened-refusal _ (g .pre .0) (g .pre .1) _ _ _ _ _ _ s (c .before .before .before .before .before .before .before .refused .ensures) (c .before .before .before .before .before .before .before .before .wide .ensures) in
@@ -62,6 +62,6 @@ opened-sound-spec =
     refused-requires
     returns
     list-opened-requires
-    cast-t9
+    cast-t12
     same-length
     returns-2)

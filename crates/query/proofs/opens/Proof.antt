@@ -33,7 +33,7 @@ axis-code-requires-2 : tie.Need-axis-code-requires-2
 axis-code-requires-2 c κs = search needs
 
 page-test-requires : tie.Need-page-test-requires
-page-test-requires c κs = (coded _ _ _ _ _ (c .before .before .before .axis-code .ensures), coded _ _ _ _ _ (c .axis-code2 .ensures))
+page-test-requires c κs = (coded _ _ _ _ _ (c .before .before .before .axis-code .ensures), coded _ _ _ _ _ (c .axis-code2 .ensures), c .before .before .before .before .pre)
 
 returns-2 : tie.Need-returns-2
 unfolding opensBy

@@ -34,8 +34,8 @@ list-marks-requires c κs =
     let e = query-refusal _ (g .pre .0) (g .pre .1) _ _ _ _ _ _ s (c .before .before .before .before .before .before .before .refused .ensures) (c .before .before .before .before .before .before .before .before .wide .ensures) in
     query-lists _ (g .pre .1) _ _ _ (g .args .answer .now) _ s (sym e ∙ c .before .before .before .before .before .before .if1 .left) (c .before .before .search .ensures .1) .room
 
-cast-t11 : tie.Need-cast-t11
-cast-t11 c =
+cast-t14 : tie.Need-cast-t14
+cast-t14 c =
     let g = c .before .before .before .before .before .before .before .before .before .before .before .before .before .before .before .before .before in
     let s = c .before .before .before .before .before .before .before .before .before .before .before .before .before .admitted .ensures in
     let e = query-refusal _ (g .pre .0) (g .pre .1) _ _ _ _ _ _ s (c .before .before .before .before .before .before .before .before .before .before .refused .ensures) (c .before .before .before .before .before .before .before .before .before .before .before .wide .ensures) in
@@ -67,6 +67,6 @@ query-sound-spec =
     returns
     search-requires
     list-marks-requires
-    cast-t11
+    cast-t14
     same-length
     returns-2)

@@ -14,12 +14,26 @@ mul-result c = search needs
 element-copy-out-result : tie.Need-element-copy-out-result
 element-copy-out-result c = search needs
 
-node-mask-requires : tie.Need-node-mask-requires
-node-mask-requires c κs = search needs
+sub-result-2 : tie.Need-sub-result-2
+sub-result-2 c = search needs
+
+mul-result-2 : tie.Need-mul-result-2
+mul-result-2 c = search needs
+
+element-copy-out-result-2 : tie.Need-element-copy-out-result-2
+element-copy-out-result-2 c = search needs
 
 returns : tie.Need-returns
-returns c = tested _ _ _ _ (c .node-mask .ensures)
+returns c = tested _ _ _ _ (c .before .before .pre .1) (c .before .before .pre .2)
 
 pub page-test-spec : {M : Type 1} → statement M
 page-test-spec =
-    tie.close (tie.spec sub-result mul-result element-copy-out-result node-mask-requires returns)
+    tie.close
+    (tie.spec
+    sub-result
+    mul-result
+    element-copy-out-result
+    sub-result-2
+    mul-result-2
+    element-copy-out-result-2
+    returns)

@@ -11,6 +11,9 @@ admitted-requires c κs = search needs
 joined-requires : tie.Need-joined-requires
 joined-requires c κs = search needs
 
+node-masks-requires : tie.Need-node-masks-requires
+node-masks-requires c κs = search needs
+
 axis-code-requires : tie.Need-axis-code-requires
 axis-code-requires c κs = search needs
 
@@ -34,8 +37,8 @@ size-requires-2 c κs = search needs
 
 page-test-requires : tie.Need-page-test-requires
 page-test-requires c κs =
-    let at = c .before .before .before .before .before .before in
-    (coded _ _ _ _ _ (at .before .axis-code .ensures), coded _ _ _ _ _ (at .axis-code2 .ensures))
+    let at = c .before .before .before .before .before .before .before in
+    (coded _ _ _ _ _ (at .before .axis-code .ensures), coded _ _ _ _ _ (at .axis-code2 .ensures), at .before .before .node-masks .ensures)
 
 cast-size : tie.Need-cast-size
 cast-size c = search needs
@@ -58,6 +61,7 @@ page-spec =
     (tie.spec
     admitted-requires
     joined-requires
+    node-masks-requires
     axis-code-requires
     axis-code-requires-2
     text-requires

@@ -8,10 +8,13 @@ use Rattle.relations_examples.proofs.pages.Statement.{statement}
 use Rattle.relations_examples.proofs.pages.Tie as tie
 
 abbrev Inv-loop : tie.InvT-loop
-Inv-loop below n₀ p₀ n p = (p ≤ 169) × (n ≤ p)
+Inv-loop below masks n₀ p₀ n p = (p ≤ 169) × (n ≤ p)
 
 abbrev μ-loop : tie.MeasureT-loop
-μ-loop below n₀ p₀ n p = 169 - p
+μ-loop below masks n₀ p₀ n p = 169 - p
+
+node-masks-requires : tie.Need-node-masks-requires Inv-loop μ-loop
+node-masks-requires c κs = search needs
 
 loop-holds : tie.Need-loop-holds Inv-loop μ-loop
 loop-holds c = search needs
@@ -23,7 +26,8 @@ add-page-test-2 : tie.Need-add-page-test-2 Inv-loop μ-loop
 add-page-test-2 c = search needs
 
 page-test-requires : tie.Need-page-test-requires Inv-loop μ-loop
-page-test-requires c κs = (record { low = omega arith; high = omega arith }, record { low = omega arith; high = omega arith })
+page-test-requires c κs =
+    (record { low = omega arith; high = omega arith }, record { low = omega arith; high = omega arith }, c .before .before .before .node-masks .ensures)
 
 add-n : tie.Need-add-n Inv-loop μ-loop
 add-n c = search needs
@@ -46,6 +50,7 @@ pages-spec =
     (tie.spec
     Inv-loop
     μ-loop
+    node-masks-requires
     loop-holds
     add-page-test
     add-page-test-2
