@@ -1,6 +1,6 @@
 -- What the inner functions are held to: the tests on rows, the piece numbers that a walk meets, and marks as bits.
 use Prim.Native.Nat.{ℕ, zero, suc, _/_, _%_, _^_, _≤_, _<_}
-use mathlib.Core.Bool.{Bool, not, cond}
+use mathlib.Core.Bool.{Bool, true, false, not, cond, _&&_, _||_}
 use mathlib.Core.Path.{_≡_}
 use mathlib.Core.List.{List, [], _∷_, _++_}
 use lib.ListN.{length, getD, drop, set}
@@ -16,6 +16,7 @@ use Rattle.pages.specs.Refusals.{ACCEPTED, RECTANGLE_NOT_VALID, ANSWER_TOO_SHOR
 use Rattle.pages.specs.Layout.{Page, Table, pageAt, page, tableIn}
 use Rattle.pages.specs.Sound.{sound}
 use Rattle.query.specs.declared.Opened.{Opened}
+use Rattle.query.specs.declared.Reference.{Reference}
 use Rattle.query.specs.Admission.{codeY, codeX}
 use Rattle.query.specs.Opening.{joined}
 use Rattle.query.specs.Listing.{rising}
@@ -32,6 +33,18 @@ pub record SoundPage (w : List ℕ) (p l : ℕ) : Type 0 where
 unfoldable pub refusalFrom : Rect → ℕ → ℕ → ℕ → ℕ
 refusalFrom q clauses size needed =
     cond (not (valid q)) RECTANGLE_NOT_VALID (cond (eqb clauses ACCEPTED) (cond (ltb size needed) ANSWER_TOO_SHORT ACCEPTED) clauses)
+
+-- p lies beyond q on one of its sides
+unfoldable pub beyond : Rect → Rect → Bool
+beyond q p = ltb (q .y2) (p .y1) || (ltb (p .y2) (q .y1) || (ltb (q .x2) (p .x1) || ltb (p .x2) (q .x1)))
+
+-- where nothing beyond the reference can be admitted, what lies there is passed by
+abbrev pub passed : Reference → Rect → Bool
+passed q p = q .near && beyond (q .rect) p
+
+-- what is passed by fails the test
+abbrev pub Passing : Reference → (Rect → Bool) → Type 0
+Passing q test = (p : Rect) → passed q p ≡ true → test p ≡ false
 
 -- the leaf test by row sets, the page test by joined rows
 unfoldable pub admitsBy : List ℕ → Rect → Rect → Bool

@@ -9,11 +9,12 @@ ghost use lib.Seq.{sets};
 ghost use lib.Dec.{T};
 ghost use Rattle.relations.specs.Steps.{joinedOf, nodeMasks};
 ghost use Rattle.pages.specs.Sizes.{PAGES, PIECES, TABLE_WORDS};
+ghost use Rattle.pages.specs.Rectangles.{valid};
 ghost use Rattle.pages.specs.Sound.{sound};
 ghost use Rattle.pages.specs.Layout.{noEntry, page, tableIn};
 ghost use Rattle.query.specs.Opening.{joined, openedUnder, openedPages};
 ghost use Rattle.query.specs.Calls.{querySound, queryCall, OpenedWords, frontOf};
-ghost use Rattle.query.specs.Steps.{SoundPage, refusalFrom, openedListed, admitsBy, opensBy, admittedR, hitsUnder, hitsFrom, MARK_BITS, withMark, marked, onesFrom, markedNumbers};
+ghost use Rattle.query.specs.Steps.{SoundPage, refusalFrom, openedListed, beyond, passed, Passing, admitsBy, opensBy, admittedR, hitsUnder, hitsFrom, MARK_BITS, withMark, marked, onesFrom, markedNumbers};
 use pages::Entry;
 use pages::Rect;
 use relations::CODES;
@@ -33,6 +34,12 @@ pub struct Answer {
 pub struct Opened {
     pub refusal: u32,
     pub count: u32,
+}
+
+// The reference rectangle, and whether nothing beyond it can be admitted.
+struct Reference {
+    rect: Rect,
+    near: bool,
 }
 
 // The first count words of the answer slice itself.
@@ -68,28 +75,63 @@ fn entry_at(table: &[u32], p: usize, level: usize, i: usize) -> Entry
     pages::entry_of(pages::page_of(table, p), i)
 }
 
-// Whether a piece's rectangle is admitted. Most fail on y, where their row is empty.
-fn admits(rows: &[u16; CODES], reference: Rect, rect: Rect) -> bool
-    ensures { λ r. ⌜ r ≡ admitsBy (now (rows .entry)) reference rect ⌝ }
+// Whether a rectangle lies beyond q on one of its sides.
+fn is_beyond(q: Rect, rect: Rect) -> bool
+    ensures { λ r. ⌜ r ≡ beyond q rect ⌝ }
 {
-    let i = relations::axis_code(rect.y1, rect.y2, reference.y1, reference.y2);
+    if rect.y1 > q.y2 {
+        return true;
+    }
+    if rect.y2 < q.y1 {
+        return true;
+    }
+    if rect.x1 > q.x2 {
+        return true;
+    }
+    rect.x2 < q.x1
+}
+
+// Whether a rectangle is passed by without its codes.
+fn is_passed(reference: Reference, rect: Rect) -> bool
+    ensures { λ r. ⌜ r ≡ passed reference rect ⌝ }
+{
+    if reference.near {
+        return is_beyond(reference.rect, rect);
+    }
+    false
+}
+
+// Whether a piece's rectangle is admitted. Of those not passed by most fail on y, where their row is empty.
+fn admits(rows: &[u16; CODES], reference: Reference, rect: Rect) -> bool
+    requires { ⌜ Passing reference (admitsBy (now rows) (reference .rect)) ⌝ }
+    ensures { λ r. ⌜ r ≡ admitsBy (now (rows .entry)) (reference .rect) rect ⌝ }
+{
+    if is_passed(reference, rect) {
+        return false;
+    }
+    let q = reference.rect;
+    let i = relations::axis_code(rect.y1, rect.y2, q.y1, q.y2);
     if rows[i - 1] == 0 {
         return false;
     }
-    let j = relations::axis_code(rect.x1, rect.x2, reference.x1, reference.x2);
+    let j = relations::axis_code(rect.x1, rect.x2, q.x1, q.x2);
     relations::leaf_test(rows, i, j)
 }
 
 // Whether a page's rectangle may hold an admitted one; y first, as above.
-fn opens(below: &[u16; CODES], masks: &[u16; CODES], reference: Rect, rect: Rect) -> bool
-    requires { ⌜ now masks ≡ nodeMasks ⌝ }
-    ensures { λ r. ⌜ r ≡ opensBy (now (below .entry)) reference rect ⌝ }
+fn opens(below: &[u16; CODES], masks: &[u16; CODES], reference: Reference, rect: Rect) -> bool
+    requires { ⌜ (now masks ≡ nodeMasks) × Passing reference (opensBy (now below) (reference .rect)) ⌝ }
+    ensures { λ r. ⌜ r ≡ opensBy (now (below .entry)) (reference .rect) rect ⌝ }
 {
-    let cy = relations::axis_code(rect.y1, rect.y2, reference.y1, reference.y2);
+    if is_passed(reference, rect) {
+        return false;
+    }
+    let q = reference.rect;
+    let cy = relations::axis_code(rect.y1, rect.y2, q.y1, q.y2);
     if below[cy - 1] == 0 {
         return false;
     }
-    let cx = relations::axis_code(rect.x1, rect.x2, reference.x1, reference.x2);
+    let cx = relations::axis_code(rect.x1, rect.x2, q.x1, q.x2);
     relations::page_test(below, masks, cy, cx)
 }
 
@@ -104,13 +146,13 @@ fn mark(marks: &mut [u64; MARK_WORDS], r: u32)
 // Marks the admitted pieces of a leaf.
 fn mark_leaf(
     table: &[u32],
-    reference: Rect,
+    reference: Reference,
     rows: &[u16; CODES],
     p: usize,
     marks: &mut [u64; MARK_WORDS],
 )
-    requires { ⌜ SoundPage (now table) p 0 ⌝ }
-    ensures { λ _. ⌜ now (marks .exit) ≡ marked (now (marks .entry)) (joined (admittedR (admitsBy (now (rows .entry)) reference)) (page (tableIn (now (table .entry))) p .entries)) ⌝ }
+    requires { ⌜ SoundPage (now table) p 0 × Passing reference (admitsBy (now rows) (reference .rect)) ⌝ }
+    ensures { λ _. ⌜ now (marks .exit) ≡ marked (now (marks .entry)) (joined (admittedR (admitsBy (now (rows .entry)) (reference .rect))) (page (tableIn (now (table .entry))) p .entries)) ⌝ }
 {
     let n = size_of(table, p, 0);
     for i in 0..n {
@@ -125,7 +167,7 @@ fn mark_leaf(
 // number of opened pages to `opened`.
 fn walk(
     table: &[u32],
-    reference: Rect,
+    reference: Reference,
     rows: &[u16; CODES],
     below: &[u16; CODES],
     masks: &[u16; CODES],
@@ -134,9 +176,9 @@ fn walk(
     marks: &mut [u64; MARK_WORDS],
     opened: u32,
 ) -> u32
-    requires { ⌜ SoundPage (now table) p level × (opened + length (openedUnder (opensBy (now below) reference) (tableIn (now table) .pages) level p) ≤ PAGES) × (now masks ≡ nodeMasks) ⌝ }
-    ensures { λ r. ⌜ (r ≡ opened + length (openedUnder (opensBy (now (below .entry)) reference) (tableIn (now (table .entry)) .pages) level p))
-        × (now (marks .exit) ≡ marked (now (marks .entry)) (hitsUnder (admitsBy (now (rows .entry)) reference) (opensBy (now (below .entry)) reference) (tableIn (now (table .entry)) .pages) level p)) ⌝ }
+    requires { ⌜ SoundPage (now table) p level × (opened + length (openedUnder (opensBy (now below) (reference .rect)) (tableIn (now table) .pages) level p) ≤ PAGES) × (now masks ≡ nodeMasks) × Passing reference (opensBy (now below) (reference .rect)) × Passing reference (admitsBy (now rows) (reference .rect)) ⌝ }
+    ensures { λ r. ⌜ (r ≡ opened + length (openedUnder (opensBy (now (below .entry)) (reference .rect)) (tableIn (now (table .entry)) .pages) level p))
+        × (now (marks .exit) ≡ marked (now (marks .entry)) (hitsUnder (admitsBy (now (rows .entry)) (reference .rect)) (opensBy (now (below .entry)) (reference .rect)) (tableIn (now (table .entry)) .pages) level p)) ⌝ }
 {
     let mut count: u32 = opened + 1;
     if level == 0 {
@@ -166,7 +208,7 @@ fn walk(
 // Opens page p and the pages under it that may hold an admitted piece, and writes their numbers from place `at` on.
 fn open_walk(
     table: &[u32],
-    reference: Rect,
+    reference: Reference,
     below: &[u16; CODES],
     masks: &[u16; CODES],
     level: usize,
@@ -174,9 +216,9 @@ fn open_walk(
     answer: &mut [u16],
     at: usize,
 ) -> usize
-    requires { ⌜ SoundPage (now table) p level × (at + length (openedUnder (opensBy (now below) reference) (tableIn (now table) .pages) level p) ≤ length (now answer)) × (now masks ≡ nodeMasks) ⌝ }
-    ensures { λ r. ⌜ (r ≡ at + length (openedUnder (opensBy (now (below .entry)) reference) (tableIn (now (table .entry)) .pages) level p))
-        × (now (answer .exit) ≡ sets (now (answer .entry)) at (openedUnder (opensBy (now (below .entry)) reference) (tableIn (now (table .entry)) .pages) level p)) ⌝ }
+    requires { ⌜ SoundPage (now table) p level × (at + length (openedUnder (opensBy (now below) (reference .rect)) (tableIn (now table) .pages) level p) ≤ length (now answer)) × (now masks ≡ nodeMasks) × Passing reference (opensBy (now below) (reference .rect)) ⌝ }
+    ensures { λ r. ⌜ (r ≡ at + length (openedUnder (opensBy (now (below .entry)) (reference .rect)) (tableIn (now (table .entry)) .pages) level p))
+        × (now (answer .exit) ≡ sets (now (answer .entry)) at (openedUnder (opensBy (now (below .entry)) (reference .rect)) (tableIn (now (table .entry)) .pages) level p)) ⌝ }
 {
     answer[at] = p as u16;
     let mut next: usize = at + 1;
@@ -247,38 +289,36 @@ fn level_of(table: &[u32], p: usize) -> usize
 
 // Walks from the root: marks the admitted pieces, and gives the number of opened pages.
 fn search(table: &[u32], reference: Rect, rows: &[u16; CODES], marks: &mut [u64; MARK_WORDS]) -> u32
-    requires { ⌜ (TABLE_WORDS ≤ length (now table)) × T (sound (now table)) ⌝ }
+    requires { ⌜ (TABLE_WORDS ≤ length (now table)) × T (sound (now table)) × T (valid reference) ⌝ }
     ensures { λ r. ⌜ (r ≡ length (openedPages (opensBy (joinedOf (now (rows .entry))) reference) (tableIn (now (table .entry)))))
         × (now (marks .exit) ≡ marked (now (marks .entry)) (hitsFrom (admitsBy (now (rows .entry)) reference) (opensBy (joinedOf (now (rows .entry))) reference) (tableIn (now (table .entry))))) ⌝ }
 {
     let below = relations::joined(rows);
     let masks = relations::node_masks();
+    let q = Reference {
+        rect: reference,
+        near: relations::is_near(&below, &masks),
+    };
     let root = root_of(table);
     let level = level_of(table, root);
-    walk(
-        table,
-        reference,
-        rows,
-        &below,
-        &masks,
-        level,
-        root,
-        marks,
-        0,
-    )
+    walk(table, q, rows, &below, &masks, level, root, marks, 0)
 }
 
 // Writes the opened pages, each page before its children.
 fn list_opened(table: &[u32], reference: Rect, rows: &[u16; CODES], answer: &mut [u16]) -> usize
-    requires { ⌜ (TABLE_WORDS ≤ length (now table)) × T (sound (now table)) × (length (tableIn (now table) .pages) ≤ length (now answer)) ⌝ }
+    requires { ⌜ (TABLE_WORDS ≤ length (now table)) × T (sound (now table)) × (length (tableIn (now table) .pages) ≤ length (now answer)) × T (valid reference) ⌝ }
     ensures { λ r. ⌜ (r ≡ length (openedPages (opensBy (joinedOf (now (rows .entry))) reference) (tableIn (now (table .entry)))))
         × (now (answer .exit) ≡ sets (now (answer .entry)) 0 (openedPages (opensBy (joinedOf (now (rows .entry))) reference) (tableIn (now (table .entry))))) ⌝ }
 {
     let below = relations::joined(rows);
     let masks = relations::node_masks();
+    let q = Reference {
+        rect: reference,
+        near: relations::is_near(&below, &masks),
+    };
     let root = root_of(table);
     let level = level_of(table, root);
-    open_walk(table, reference, &below, &masks, level, root, answer, 0)
+    open_walk(table, q, &below, &masks, level, root, answer, 0)
 }
 
 // The refusal of a call on a sound table, where the clauses have the refusal `clauses`, the answer slice has `size` words

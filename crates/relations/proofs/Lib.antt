@@ -11,4 +11,5 @@ pub mod Tables
 pub mod Rows
 pub mod Answer
 pub mod Pages
+pub mod Near
 pub mod Examples

@@ -4,22 +4,20 @@ use mathlib.Core.Bool.{Bool, true, false, not, cond, _&&_, and-comm, false≢tru
 use mathlib.Core.List.{List}
 use mathlib.Core.Logic.{_↔_}
 use mathlib.Core.Path.{_≡_, refl, sym, ap, ap₂, _∙_}
-use Prim.Native.Nat.{ℕ, zero, suc, _+_, _-_, _*_, _/_, _%_, _^_, _≤_, _<_}
-use native.Mathlib.Nat.{lt-of-le-of-lt, le-trans, le-of-eq}
-use native.Mathlib.Numerals.{add-one}
+use Prim.Native.Nat.{ℕ, zero, suc, _-_, _*_, _^_, _≤_, _<_}
+use native.Mathlib.Nat.{lt-of-le-of-lt}
 use native.Mathlib.Omega.{arith}
-use lib.Bits.{bitAnd, bitOr, and-le-r}
+use lib.Bits.{bitAnd, bitOr, and-le-r, or-zero-r}
 use lib.Dec.{eqb}
-use lib.ListN.{length, getD, set, replicate}
+use lib.ListN.{getD}
 use borrow.Author.Tests.{eq-eqb, ne-eqb}
 use Rattle.relations.specs.Sets.{bit, someBelow, listed}
 use Rattle.relations.specs.Axis.{CODES, IsCode, code}
 use Rattle.relations.specs.Query.{admits, rowSet, rowSets}
 use Rattle.relations.specs.Nodes.{inside, nodeMask, mayHold, Quarter, QuarterRect}
-use Rattle.relations.specs.Steps.{joinedTo, withRow, joinedOf, nodeMasks, pageTest, rowsHave}
+use Rattle.relations.specs.Steps.{joinedTo, joinedOf, nodeMasks, pageTest, rowsHave}
 use Rattle.relations.proofs.Tests.{and-left, and-right, both}
-use Rattle.relations.proofs.Bits.{bit-none, bit-or, bit-and, bit-packed, packed-lt, packed-of, packed-none, none-below, none-at, some-at, some-same, some-swap, found-below, listed-at, length-listed, listed-same}
-use Rattle.relations.proofs.Filled.{filled, filled-at, filled-more}
+use Rattle.relations.proofs.Bits.{bit-none, bit-or, bit-and, bit-packed, packed-lt, packed-of, packed-none, none-below, none-at, some-at, some-same, some-swap, found-below, listed-at, listed-same}
 use Rattle.relations.proofs.Sides.{is-code, code-suc, in-quarters, same-code}
 use Rattle.relations.proofs.Quarter.{quarter}
 
@@ -86,60 +84,26 @@ unfolding pageTest both-have
 tested below masks cy cx i e =
     ap (λ (x : ℕ). not (eqb (bitAnd (getD below (cy - 1) 0) x) 0)) (ap (λ (l : List ℕ). getD l (cx - 1) 0) e ∙ masks-at cx i) ∙ shared (getD below (cy - 1) 0) cx
 
-digit-times : (row r : ℕ) → r < 2 → row * r ≡ cond (eqb r 1) row 0
-digit-times row zero l = omega arith
-digit-times row (suc zero) l = omega arith
-digit-times row (suc (suc r)) l = absurd (omega arith)
-
-times-bit : (row m h : ℕ) → row * (m / 2 ^ h % 2) ≡ cond (bit m h) row 0
-unfolding bit
-times-bit row m h = digit-times row (m / 2 ^ h % 2) (omega arith)
-
-pub times-le : (row m h : ℕ) → row * (m / 2 ^ h % 2) ≤ row
-times-le row m h = le-trans (le-of-eq (times-bit row m h)) (go (bit m h))
-  where
-    go : (b : Bool) → cond b row 0 ≤ row
-    go true = omega arith
-    go false = omega arith
-
--- as the source adds the row of code h + 1 to the joined row of page code c + 1
-abbrev pub joinRow : List ℕ → ℕ → ℕ → ℕ → ℕ
-joinRow below h row k = bitOr (getD below k 0) (cond (inside (suc k) (suc h)) row 0)
-
-module _ (below : List ℕ) (h row c m : ℕ) (e : m ≡ nodeMask (suc c)) (lh : h < CODES) (lc : c < CODES) where
-  mask-inside : bit m h ≡ inside (suc c) (suc h)
-  mask-inside = ap (λ (x : ℕ). bit x h) e ∙ bit-mask (suc c) h lh
-
-  pub join-step : (now : List ℕ) → now ≡ filled (joinRow below h row) below CODES c
-      → set now c (bitOr (getD now c 0) (row * (m / 2 ^ h % 2))) ≡ filled (joinRow below h row) below CODES (c + 1)
-  join-step now q =
-      ap (λ (x : List ℕ). set x c (bitOr (getD x c 0) (row * (m / 2 ^ h % 2)))) q
-      ∙ filled-more (joinRow below h row) below CODES c _ lc
-      (ap₂ bitOr (filled-at (joinRow below h row) below CODES c lc) (times-bit row m h ∙ ap (λ (t : Bool). cond t row 0) mask-inside))
-
--- the joined rows as far as the rows before h
+-- the joined rows as the source writes them, without the rows that a page's code does not allow
 module _ (rows : List ℕ) where
-  pub partJoined : ℕ → List ℕ
-  partJoined h = listed (λ c. joinedTo rows (suc c) h) CODES
+  unfoldable pub picked : ℕ → ℕ → ℕ
+  picked c zero = 0
+  picked c (suc n) = cond (inside c (suc n)) (bitOr (picked c n) (getD rows n 0)) (picked c n)
 
-  pub join-length : (h : ℕ) → length (partJoined h) ≡ CODES
-  unfolding partJoined
-  join-length h = length-listed (λ c. joinedTo rows (suc c) h) CODES
+  added : (b : Bool) (x r : ℕ) → cond b (bitOr x r) x ≡ bitOr x (cond b r 0)
+  added true x r = refl
+  added false x r = sym (or-zero-r x)
 
-  pub join-none : replicate CODES 0 ≡ partJoined 0
-  unfolding partJoined joinedTo listed
-  join-none = refl
+  picked-joined : (c n : ℕ) → picked c n ≡ joinedTo rows c n
+  unfolding picked joinedTo
+  picked-joined c zero = refl
+  picked-joined c (suc n) =
+      added (inside c (suc n)) (picked c n) (getD rows n 0)
+      ∙ ap (λ (x : ℕ). bitOr x (cond (inside c (suc n)) (getD rows n 0) 0)) (picked-joined c n)
 
-  pub join-more : (h : ℕ) → withRow (partJoined h) h (getD rows h 0) ≡ partJoined (h + 1)
-  unfolding partJoined joinedTo withRow
-  join-more h =
-      listed-same _ _ CODES
-      (λ c l. ap (λ (r : ℕ). bitOr r (cond (inside (suc c) (suc h)) (getD rows h 0) 0)) (listed-at (λ k. joinedTo rows (suc k) h) CODES c l)
-      ∙ ap (joinedTo rows (suc c)) (sym (add-one h)))
-
-  pub join-whole : partJoined CODES ≡ joinedOf rows
-  unfolding partJoined joinedOf
-  join-whole = refl
+  pub all-picked : listed (λ c. picked (suc c) CODES) CODES ≡ joinedOf rows
+  unfolding joinedOf
+  all-picked = listed-same _ _ CODES (λ c l. picked-joined (suc c) CODES)
 
 module _ (rows : List ℕ) where
   -- code i can stand inside a page of code cy, and its row has bit k

@@ -1,6 +1,6 @@
 -- What the inner functions are held to: the side of a number, rows of one relation and of one clause, and the row sets joined for a page's code.
 -- Assumes nothing.
-use mathlib.Core.Bool.{Bool, cond, _&&_}
+use mathlib.Core.Bool.{Bool, not, cond, _&&_, _||_}
 use mathlib.Core.List.{List}
 use Prim.Native.Nat.{ℕ, zero, suc, _+_, _-_}
 use lib.Bits.{bitAnd, bitOr}
@@ -37,10 +37,6 @@ unfoldable pub joinedTo : List ℕ → ℕ → ℕ → ℕ
 joinedTo rows c zero = 0
 joinedTo rows c (suc n) = bitOr (joinedTo rows c n) (cond (inside c (suc n)) (getD rows n 0) 0)
 
--- joined rows with the row of code h + 1 added
-unfoldable pub withRow : List ℕ → ℕ → ℕ → List ℕ
-withRow below h row = listed (λ c. bitOr (getD below c 0) (cond (inside (suc c) (suc h)) row 0)) CODES
-
 -- what may stand below a page of code c on y, at place c - 1
 unfoldable pub joinedOf : List ℕ → List ℕ
 joinedOf rows = listed (λ c. joinedTo rows (suc c) CODES) CODES
@@ -52,6 +48,18 @@ nodeMasks = listed (λ c. nodeMask (suc c)) CODES
 -- the page test on joined rows: some code of the row of cy is in the set of cx
 unfoldable pub pageTest : List ℕ → ℕ → ℕ → Bool
 pageTest joined cy cx = someBelow (λ k. inside cx (suc k) && bit (getD joined (cy - 1) 0) k) CODES
+
+-- the code of a page in which every code can stand
+abbrev pub AROUND : ℕ
+AROUND = 5
+
+-- something admitted can stand below a page of code c on one axis, whatever its code on the other
+unfoldable pub openAt : List ℕ → ℕ → Bool
+openAt joined c = pageTest joined c AROUND || pageTest joined AROUND c
+
+-- nothing beyond the reference can be admitted: what lies there has code 1, 2 or 13 on some axis
+unfoldable pub nearBy : List ℕ → Bool
+nearBy joined = not (openAt joined 1) && (not (openAt joined 2) && not (openAt joined CODES))
 
 -- the leaf test on row sets: (i, j) is in them
 unfoldable pub rowsHave : List ℕ → ℕ → ℕ → Bool

@@ -7,7 +7,7 @@ ghost use Rattle.relations.specs.Sets.{total, listed};
 ghost use Rattle.relations.specs.Axis.{CODES, code, IsCode};
 ghost use Rattle.relations.specs.Relation.{setsOf};
 ghost use Rattle.relations.specs.Query.{refusalOf, admittedOf};
-ghost use Rattle.relations.specs.Steps.{sideOf, namedRow, withRelation, cutTo, withRow, joinedOf, nodeMasks, pageTest, rowsHave};
+ghost use Rattle.relations.specs.Steps.{sideOf, namedRow, withRelation, cutTo, joinedOf, nodeMasks, pageTest, openAt, nearBy, rowsHave};
 
 // The codes are 1 to 13.
 pub const CODES: usize = 13;
@@ -49,6 +49,9 @@ const ACROSS: [u16; 8] = [8191, 8191, 256, 256, 1, 7, 8191, 8191];
 const ALONG_TURNED: [u16; 8] = [4096, 1024, 4096, 1024, 4096, 1024, 2048, 7168];
 
 const ACROSS_TURNED: [u16; 8] = [8191, 8191, 256, 256, 4096, 7168, 8191, 8191];
+
+// The code of a page that reaches beyond the reference on both sides, in which every code can stand.
+const AROUND: usize = 5;
 
 // By the code of a page, from 1 on: the codes of intervals inside it.
 const NODE_MASKS: [u16; CODES] = [
@@ -222,27 +225,39 @@ pub fn node_masks() -> [u16; CODES]
     NODE_MASKS
 }
 
-// Adds the row of code h + 1 to what may stand below each page code that it can stand inside: a product, so that no
-// branch is left.
-fn join_row(below: &mut [u16; CODES], h: usize, row: u16)
-    requires { ⌜ (length (now below) ≡ CODES) × (h < CODES) ⌝ }
-    ensures { λ _. ⌜ now (below .exit) ≡ withRow (now (below .entry)) h row ⌝ }
-{
-    for c in 0..CODES {
-        let inside: u16 = (NODE_MASKS[c] >> h) % 2;
-        below[c] |= row * inside;
-    }
-}
-
-// The row sets joined for each code of a page, made once for each query: the page test then looks at one row.
+// The row sets joined for each code of a page, made once for each query: the page test then looks at one row. Written out
+// by the thirteen sets, since a loop over their masks took longer than most walks.
 pub fn joined(rows: &[u16; CODES]) -> [u16; CODES]
     ensures { λ r. ⌜ r ≡ joinedOf (now (rows .entry)) ⌝ }
 {
-    let mut below = [0u16; CODES];
-    for h in 0..CODES {
-        join_row(&mut below, h, rows[h]);
-    }
-    below
+    let r1 = rows[0];
+    let r2 = rows[1];
+    let r3 = rows[2];
+    let r4 = rows[3];
+    let r5 = rows[4];
+    let r6 = rows[5];
+    let r7 = rows[6];
+    let r8 = rows[7];
+    let r9 = rows[8];
+    let r10 = rows[9];
+    let r11 = rows[10];
+    let r12 = rows[11];
+    let r13 = rows[12];
+    [
+        r1,
+        r1 | r2,
+        r1 | r2 | r3 | r6 | r9,
+        r1 | r2 | r3 | r4 | r6 | r7 | r9 | r10,
+        r1 | r2 | r3 | r4 | r5 | r6 | r7 | r8 | r9 | r10 | r11 | r12 | r13,
+        r6 | r9,
+        r6 | r7 | r9 | r10,
+        r6 | r7 | r8 | r9 | r10 | r11 | r12 | r13,
+        r9,
+        r9 | r10,
+        r9 | r10 | r11 | r12 | r13,
+        r12 | r13,
+        r13,
+    ]
 }
 
 // Whether a page of codes cy and cx can hold an admitted configuration, by the joined rows.
@@ -251,6 +266,32 @@ pub fn page_test(below: &[u16; CODES], masks: &[u16; CODES], cy: usize, cx: usiz
     ensures { λ r. ⌜ r ≡ pageTest (now (below .entry)) cy cx ⌝ }
 {
     below[cy - 1] & masks[cx - 1] != 0
+}
+
+// Whether something admitted can stand below a page of code c on one axis, whatever its code on the other.
+fn is_open(below: &[u16; CODES], masks: &[u16; CODES], c: usize) -> bool
+    requires { ⌜ IsCode c × (now masks ≡ nodeMasks) ⌝ }
+    ensures { λ r. ⌜ r ≡ openAt (now (below .entry)) c ⌝ }
+{
+    if page_test(below, masks, c, AROUND) {
+        return true;
+    }
+    page_test(below, masks, AROUND, c)
+}
+
+// Whether nothing beyond the reference can be admitted. Most queries ask for contact, and a walk then passes by what lies
+// beyond without its codes.
+pub fn is_near(below: &[u16; CODES], masks: &[u16; CODES]) -> bool
+    requires { ⌜ now masks ≡ nodeMasks ⌝ }
+    ensures { λ r. ⌜ r ≡ nearBy (now (below .entry)) ⌝ }
+{
+    if is_open(below, masks, 1) {
+        return false;
+    }
+    if is_open(below, masks, 2) {
+        return false;
+    }
+    !is_open(below, masks, CODES)
 }
 
 // Whether configuration (i, j) is admitted, by the row sets.

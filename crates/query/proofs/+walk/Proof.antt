@@ -38,7 +38,7 @@ walk-cs t = (mark-leaf-reads.Asked, mark-leaf-reads.Learnt, size-of-reads.Asked,
 abbrev walk-Inv-loop : walk-lts.InvT-loop
 walk-Inv-loop table reference rows below masks level p marks₀ opened count₀ n i₀ marks count i =
     (n ≡ length (page (tableIn table) p .entries)) × (i ≤ n)
-    × Marking (admitsBy rows reference) (opensBy below reference) (tableIn table .pages) (level - 1) (page (tableIn table) p .entries) i (opened + 1) count marks₀ marks
+    × Marking (admitsBy rows (reference .rect)) (opensBy below (reference .rect)) (tableIn table .pages) (level - 1) (page (tableIn table) p .entries) i (opened + 1) count marks₀ marks
 
 abbrev walk-μ-loop : walk-lts.MeasureT-loop
 walk-μ-loop table reference rows below masks level p marks₀ opened count₀ n i₀ marks count i = n - i
@@ -46,16 +46,18 @@ walk-μ-loop table reference rows below masks level p marks₀ opened count₀ n
 walk-add-count : (t : ℕ) → walk-lts.Need-add-count (walk-cs t) (walk-at t) walk.Post walk-Inv-loop walk-μ-loop
 walk-add-count t c =
     let a = c .before .args in
-    omega (arith, opened-one (opensBy (a .below .now) (a .reference)) (tableIn (a .table .now) .pages) (a .level) (a .p))
+    omega (arith, opened-one (opensBy (a .below .now) (a .reference .rect)) (tableIn (a .table .now) .pages) (a .level) (a .p))
 
 walk-mark-leaf-requires : (t : ℕ) → walk-lts.Need-mark-leaf-requires (walk-cs t) (walk-at t) walk.Post walk-Inv-loop walk-μ-loop
-walk-mark-leaf-requires t c κs = leaf-page _ _ _ (c .before .before .before .pre .1 .0) (c .before .if1 .taken)
+walk-mark-leaf-requires t c κs =
+    let g = c .before .before .before .pre .1 in
+    (leaf-page _ _ _ (g .0) (c .before .if1 .taken), g .4)
 
 walk-returns : (t : ℕ) → walk-lts.Need-returns (walk-cs t) (walk-at t) walk.Post walk-Inv-loop walk-μ-loop
 walk-returns t c =
     let a = c .before .before .before .before .args in
     let z = c .before .before .if1 .taken in (
-      omega (arith, ap length (opened-leaf (opensBy (a .below .now) (a .reference)) (tableIn (a .table .now) .pages) (a .level) (a .p) z)),
+      omega (arith, ap length (opened-leaf (opensBy (a .below .now) (a .reference .rect)) (tableIn (a .table .now) .pages) (a .level) (a .p) z)),
       c .mark-leaf .ensures ∙ ap (marked _) (sym (hits-leaf _ _ _ (a .level) (a .p) z)),
     )
 
@@ -72,7 +74,9 @@ walk-entry-at-requires t c κs =
     (g .pre .1 .0, omega (arith, c .before .loop .inv .0))
 
 walk-opens-requires : (t : ℕ) → walk-lts.Need-opens-requires (walk-cs t) (walk-at t) walk.Post walk-Inv-loop walk-μ-loop
-walk-opens-requires t c κs = c .before .before .before .before .before .before .pre .1 .2
+walk-opens-requires t c κs =
+    let g = c .before .before .before .before .before .before .pre .1 in
+    (g .2, g .3)
 
 walk-sub-walk : (t : ℕ) → walk-lts.Need-sub-walk (walk-cs t) (walk-at t) walk.Post walk-Inv-loop walk-μ-loop
 walk-sub-walk t c = search needs
@@ -92,8 +96,10 @@ walk-walk-requires t c κs =
       omega arith,
       (
         same-page _ _ _ _ (c .before .wide .ensures ∙ ap (λ x. x .r) (e .ensures)) (child-page _ _ _ (g .pre .1 .0) (l .i) z il),
-        child-room (opensBy (a .below .now) (a .reference)) (tableIn (a .table .now) .pages) (a .level) (a .p) (l .i) (e .result) _ (c .before .wide .ensures) (a .opened) (l .count) _ z il (e .ensures) y (l .inv .2 .0) (g .pre .1 .1),
+        child-room (opensBy (a .below .now) (a .reference .rect)) (tableIn (a .table .now) .pages) (a .level) (a .p) (l .i) (e .result) _ (c .before .wide .ensures) (a .opened) (l .count) _ z il (e .ensures) y (l .inv .2 .0) (g .pre .1 .1),
         g .pre .1 .2,
+        g .pre .1 .3,
+        g .pre .1 .4,
       ),
     )
 
@@ -114,8 +120,8 @@ walk-loop-again t c =
       l .inv .0,
       omega arith,
       ⊎-elim
-          (λ w. let u = marking-open (opensBy (a .below .now) (a .reference)) (tableIn (a .table .now) .pages) (a .level - 1) _ (l .i) (e .result) il (e .ensures) (a .opened + 1) (l .count) _ (w .1 .ensures) (admitsBy (a .rows .now) (a .reference)) _ (l .marks) _ (w .3 .result) (y ∙ w .0 .taken) (l .inv .2) (w .3 .ensures) in (w .5 ∙ u .0, w .4 ∙ u .1))
-          (λ w. let u = marking-shut (opensBy (a .below .now) (a .reference)) (tableIn (a .table .now) .pages) (a .level - 1) _ (l .i) (e .result) il (e .ensures) (a .opened + 1) (l .count) (admitsBy (a .rows .now) (a .reference)) _ (l .marks) (y ∙ w .0 .left) (l .inv .2) in (w .2 ∙ u .0, w .1 ∙ u .1))
+          (λ w. let u = marking-open (opensBy (a .below .now) (a .reference .rect)) (tableIn (a .table .now) .pages) (a .level - 1) _ (l .i) (e .result) il (e .ensures) (a .opened + 1) (l .count) _ (w .1 .ensures) (admitsBy (a .rows .now) (a .reference .rect)) _ (l .marks) _ (w .3 .result) (y ∙ w .0 .taken) (l .inv .2) (w .3 .ensures) in (w .5 ∙ u .0, w .4 ∙ u .1))
+          (λ w. let u = marking-shut (opensBy (a .below .now) (a .reference .rect)) (tableIn (a .table .now) .pages) (a .level - 1) _ (l .i) (e .result) il (e .ensures) (a .opened + 1) (l .count) (admitsBy (a .rows .now) (a .reference .rect)) _ (l .marks) (y ∙ w .0 .left) (l .inv .2) in (w .2 ∙ u .0, w .1 ∙ u .1))
           (c .if2 .came),
     )
 
@@ -125,8 +131,8 @@ walk-returns-2 t c =
     let l = c .before .loop in
     let z = c .before .before .before .if1 .left in
     let il : length (page (tableIn (a .table .now)) (a .p) .entries) ≤ l .i = omega arith in (
-      count-end (opensBy (a .below .now) (a .reference)) (tableIn (a .table .now) .pages) (a .level) (a .p) (l .i) (a .opened) (l .count) z il (l .inv .2 .0),
-      marks-end (admitsBy (a .rows .now) (a .reference)) (opensBy (a .below .now) (a .reference)) (tableIn (a .table .now) .pages) (a .level) (a .p) (l .i) _ (l .marks) z il (l .inv .2 .1),
+      count-end (opensBy (a .below .now) (a .reference .rect)) (tableIn (a .table .now) .pages) (a .level) (a .p) (l .i) (a .opened) (l .count) z il (l .inv .2 .0),
+      marks-end (admitsBy (a .rows .now) (a .reference .rect)) (opensBy (a .below .now) (a .reference .rect)) (tableIn (a .table .now) .pages) (a .level) (a .p) (l .i) _ (l .marks) z il (l .inv .2 .1),
     )
 
 pub +walk-spec : {M : Type 1} → statement M

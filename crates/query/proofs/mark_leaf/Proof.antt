@@ -15,7 +15,7 @@ use Rattle.query.proofs.mark_leaf.Statement.{statement}
 use Rattle.query.proofs.mark_leaf.Tie as tie
 
 abbrev Inv-loop : tie.InvT-loop
-Inv-loop table reference rows p marks₀ n i₀ marks i = (n ≡ length (page (tableIn table) p .entries)) × (i ≤ n) × (marks ≡ marked marks₀ (joined (admittedR (admitsBy rows reference)) (take i (page (tableIn table) p .entries))))
+Inv-loop table reference rows p marks₀ n i₀ marks i = (n ≡ length (page (tableIn table) p .entries)) × (i ≤ n) × (marks ≡ marked marks₀ (joined (admittedR (admitsBy rows (reference .rect))) (take i (page (tableIn table) p .entries))))
 
 abbrev μ-loop : tie.MeasureT-loop
 μ-loop table reference rows p marks₀ n i₀ marks i = n - i
@@ -37,7 +37,7 @@ mark-requires : tie.Need-mark-requires Inv-loop μ-loop
 mark-requires c κs =
     let g = c .before .before .before .before .before .before .before .before in
     let l = c .before .before .before .before .before .loop in
-    omega (arith, ap (λ x. x .r) (c .before .before .before .entry-at .ensures), piece-number _ _ _ (g .pre) (l .i) refl (omega arith))
+    omega (arith, ap (λ x. x .r) (c .before .before .before .entry-at .ensures), piece-number _ _ _ (g .pre .0) (l .i) refl (omega arith))
 
 add-i : tie.Need-add-i Inv-loop μ-loop
 add-i c = search needs
@@ -55,8 +55,8 @@ loop-again c =
       search needs,
       search needs,
       ⊎-elim
-          (λ w. w .3 ∙ leaf-hit (admitsBy (a .rows .now) (a .reference)) _ (l .i) (e .result) il (e .ensures) _ (l .marks) (l .inv .2) _ (y ∙ w .0 .taken) (w .2 .ensures))
-          (λ w. w .1 ∙ leaf-miss (admitsBy (a .rows .now) (a .reference)) _ (l .i) (e .result) il (e .ensures) _ (l .marks) (l .inv .2) (y ∙ w .0 .left))
+          (λ w. w .3 ∙ leaf-hit (admitsBy (a .rows .now) (a .reference .rect)) _ (l .i) (e .result) il (e .ensures) _ (l .marks) (l .inv .2) _ (y ∙ w .0 .taken) (w .2 .ensures))
+          (λ w. w .1 ∙ leaf-miss (admitsBy (a .rows .now) (a .reference .rect)) _ (l .i) (e .result) il (e .ensures) _ (l .marks) (l .inv .2) (y ∙ w .0 .left))
           (c .if1 .came),
     )
 
@@ -64,7 +64,7 @@ returns : tie.Need-returns Inv-loop μ-loop
 returns c =
     let a = c .before .before .before .before .args in
     let l = c .before .loop in
-    l .inv .2 ∙ ap (marked _) (joined-all (admittedR (admitsBy (a .rows .now) (a .reference))) (page (tableIn (a .table .now)) (a .p) .entries) (l .i) (omega arith))
+    l .inv .2 ∙ ap (marked _) (joined-all (admittedR (admitsBy (a .rows .now) (a .reference .rect))) (page (tableIn (a .table .now)) (a .p) .entries) (l .i) (omega arith))
 
 pub mark-leaf-spec : {M : Type 1} → statement M
 mark-leaf-spec =

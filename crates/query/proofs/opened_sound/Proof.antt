@@ -29,7 +29,8 @@ list-opened-requires c κs =
     let g = c .before .before .before .before .before .before .before .before .before .before .before in
     let s = c .before .before .before .before .before .before .before .admitted .ensures in
     let e = opened-refusal _ (g .pre .0) (g .pre .1) _ _ _ _ _ _ s (c .before .before .before .before .refused .ensures) (c .before .before .before .before .before .wide .ensures) in
-    (g .pre .0, g .pre .1, accepted _ _ _ _ (sym e ∙ c .before .before .before .if1 .left) .room)
+    let k = accepted _ _ _ _ (sym e ∙ c .before .before .before .if1 .left) in
+    (g .pre .0, g .pre .1, k .room, k .rectangle)
 
 cast-t12 : tie.Need-cast-t12
 cast-t12 c =

@@ -2,7 +2,7 @@
 use borrow.Author.Needs.{needs}
 use native.Mathlib.Omega.{arith}
 use mathlib.Core.Path.{sym, _∙_}
-use Rattle.query.proofs.Calls.{query-refusal, query-refused, query-accepted, query-lists, query-opened}
+use Rattle.query.proofs.Calls.{query-refusal, accepted, query-refused, query-accepted, query-lists, query-opened}
 use Rattle.query.proofs.query_sound.Statement.{statement}
 use Rattle.query.proofs.query_sound.Tie as tie
 
@@ -25,7 +25,10 @@ returns c =
     query-refused _ _ _ _ _ (c .if1 .taken) e
 
 search-requires : tie.Need-search-requires
-search-requires c κs = search needs
+search-requires c κs =
+    let g = c .before .before .before .before .before .before .before .before .before .before .before in
+    let e = query-refusal _ (g .pre .0) (g .pre .1) _ _ _ _ _ _ (c .before .before .before .before .before .before .before .admitted .ensures) (c .before .before .before .before .refused .ensures) (c .before .before .before .before .before .wide .ensures) in
+    (g .pre .0, g .pre .1, accepted _ _ _ _ (sym e ∙ c .before .before .before .if1 .left) .rectangle)
 
 list-marks-requires : tie.Need-list-marks-requires
 list-marks-requires c κs =
