@@ -1,4 +1,4 @@
--- The empty and the check call: what each returns, and the words of the slice that it leaves.
+-- The empty call: what it returns, and the words of the slice that it leaves.
 use Prim.Native.Nat.{ℕ}
 use mathlib.Core.Bool.{cond}
 use mathlib.Core.List.{List, _∷_, _++_}
