@@ -1,5 +1,5 @@
 -- The empty call: what it returns, and the words of the slice that it leaves.
-use Prim.Native.Nat.{ℕ}
+use Prim.Native.Nat.{ℕ, _-_}
 use mathlib.Core.Bool.{cond}
 use mathlib.Core.List.{List, _∷_, _++_}
 use lib.ListN.{length, drop, replicate}
@@ -9,7 +9,7 @@ use Rattle.pages.specs.Refusals.{ACCEPTED, TABLE_TOO_SHORT}
 
 -- "The empty table has k = 1, root 0, and zeros elsewhere"
 unfoldable pub emptyWords : List ℕ
-emptyWords = 1 ∷ replicate 14_324 0
+emptyWords = 1 ∷ replicate (TABLE_WORDS - 1) 0
 
 -- "empty 1"; words after the table are left
 unfoldable pub emptyCall : List ℕ → ℕ × List ℕ

@@ -11,7 +11,7 @@ pub record Page : Type 0 where
   pub level : ℕ
   pub entries : List Entry
 
--- the page count k is the length of `pages`
+-- the page count k is the length of `pages`; `count` is the piece count
 pub record Table : Type 0 where
   pub root : ℕ
   pub count : ℕ

@@ -20,7 +20,7 @@ NUMBER_TOO_LARGE = 3
 abbrev pub TABLE_NOT_SOUND : ℕ
 TABLE_NOT_SOUND = 6
 
--- 7 "number already standing"
+-- 7 "number already standing, which for a call means that it is the r of one of the n entries of a leaf in the table it works on"
 abbrev pub ALREADY_STANDING : ℕ
 ALREADY_STANDING = 7
 

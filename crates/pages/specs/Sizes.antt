@@ -9,7 +9,7 @@ PIECES = 1_024
 abbrev pub EDGE : ℕ
 EDGE = 1_000_000
 
--- "its level, its entry count n, then 8 entries of x1, y1, x2, y2, r"
+-- "its level (leaf 0), its entry count n, then 8 entries of x1, y1, x2, y2, r"
 abbrev pub PAGE_HEAD : ℕ
 PAGE_HEAD = 2
 
@@ -37,6 +37,9 @@ TABLE_WORDS = 14_325
 abbrev pub TOP_LEVEL : ℕ
 TOP_LEVEL = 4
 
--- the fewest entries of a page below the root
+-- "n is 4 to 8. A root above level 0 may have 2 to 8"
 abbrev pub FEWEST : ℕ
 FEWEST = 4
+
+abbrev pub ROOT_LEAST : ℕ
+ROOT_LEAST = 2

@@ -5,7 +5,7 @@ use mathlib.Core.List.{List, [], _∷_, _++_}
 use lib.ListN.{length, getD, take, drop}
 use lib.Dec.{leb, ltb, eqb}
 use Rattle.pages.specs.declared.Entry.{Entry}
-use Rattle.pages.specs.Sizes.{PIECES, PAGE_HEAD, FANOUT, ENTRY_WORDS, PAGE_WORDS, TABLE_HEAD, PAGES, TABLE_WORDS, TOP_LEVEL, FEWEST}
+use Rattle.pages.specs.Sizes.{PIECES, PAGE_HEAD, FANOUT, ENTRY_WORDS, PAGE_WORDS, TABLE_HEAD, PAGES, TABLE_WORDS, TOP_LEVEL, FEWEST, ROOT_LEAST}
 use Rattle.pages.specs.Lists.{one, sum, all, allOf, allBelow}
 use Rattle.pages.specs.Rectangles.{valid, sameRect, bounds}
 use Rattle.pages.specs.Layout.{Page, Table, page, pageWords, tableIn}
@@ -66,7 +66,7 @@ module _ (t : Table) where
 
   -- "n is 4 to 8. A root above level 0 may have 2 to 8, a leaf root 0 to 8"
   unfoldable pub fewest : ℕ → ℕ
-  fewest p = cond (eqb p (t .root)) (cond (leaf (page t p)) 0 2) FEWEST
+  fewest p = cond (eqb p (t .root)) (cond (leaf (page t p)) 0 ROOT_LEAST) FEWEST
 
   unfoldable pub soundSizes : List Bool
   unfolding fewest

@@ -42,7 +42,7 @@ pub const TOP_LEVEL: u32 = 4;
 // The fewest entries of a page below the root, and of a root above level 0.
 pub const FEWEST: u32 = 4;
 
-pub const ROOT_FEWEST: u32 = 2;
+pub const ROOT_LEAST: u32 = 2;
 
 pub const PAGES: usize = 341;
 
@@ -63,6 +63,7 @@ pub const ALREADY_STANDING: u32 = 7;
 
 pub const ANSWER_TOO_SHORT: u32 = 8;
 
+// "four 32-bit unsigned numbers x1, y1, x2, y2 in tenths of a millimetre"; "x grows to the east, y to the north".
 pub struct Rect {
     pub x1: u32,
     pub y1: u32,

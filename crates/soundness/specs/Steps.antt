@@ -7,7 +7,7 @@ use lib.ListN.{length, getD, drop}
 use lib.Dec.{T, eqb}
 use Rattle.pages.specs.declared.Rect.{Rect}
 use Rattle.pages.specs.declared.Entry.{Entry}
-use Rattle.pages.specs.Sizes.{PIECES, PAGE_HEAD, FANOUT, ENTRY_WORDS, PAGES, TABLE_WORDS, TOP_LEVEL, FEWEST}
+use Rattle.pages.specs.Sizes.{PIECES, PAGE_HEAD, FANOUT, ENTRY_WORDS, PAGES, TABLE_WORDS, TOP_LEVEL, FEWEST, ROOT_LEAST}
 use Rattle.pages.specs.Lists.{one, sum, sumBelow}
 use Rattle.pages.specs.Rectangles.{valid, sameRect, widen, bounds}
 use Rattle.pages.specs.Layout.{page, pageWords, tableIn}
@@ -75,7 +75,7 @@ joinedOf a v r = record { good = v .good && sameRect r (v .bounds); bounds = wid
 
 -- the fewest entries of a root at a level
 abbrev pub rootFewest : ℕ → ℕ
-rootFewest l = cond (eqb l 0) 0 2
+rootFewest l = cond (eqb l 0) 0 ROOT_LEAST
 
 -- k, the root and its level as the words have them, within their limits
 pub record Rooted (w : List ℕ) (k root level : ℕ) : Type 0 where

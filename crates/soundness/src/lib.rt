@@ -3,7 +3,7 @@ use pages::FEWEST;
 use pages::PAGE_COUNT;
 use pages::PIECE_COUNT;
 use pages::ROOT;
-use pages::ROOT_FEWEST;
+use pages::ROOT_LEAST;
 use pages::TOP_LEVEL;
 ghost use mathlib.Core.Path.{_≡_};
 ghost use mathlib.Core.Bool.{false};
@@ -240,7 +240,7 @@ fn walk(
 fn root_fewest(level: u32) -> u32
     ensures { λ r. ⌜ r ≡ rootFewest level ⌝ }
 {
-    if level == 0 { 0 } else { ROOT_FEWEST }
+    if level == 0 { 0 } else { ROOT_LEAST }
 }
 
 // The walk from the root, then what it leaves: each page visited, the pieces counted, the pages from k on zero.
