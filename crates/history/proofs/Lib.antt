@@ -1,6 +1,7 @@
 pub mod Book
 pub mod Kept
 pub mod Reached
+pub mod Marking
 pub mod Rising
 pub mod Listed
 pub mod Equal

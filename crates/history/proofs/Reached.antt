@@ -51,7 +51,7 @@ pub record Reached (w : List ℕ) (b : Book) : Type 0 where
   pub holds : Holds (tableIn w) b
 
 -- the words of a table are read back
-read-back : (t : Table) (rest : List ℕ) → Facts t → tableIn (encode t ++ rest) ≡ t
+pub read-back : (t : Table) (rest : List ℕ) → Facts t → tableIn (encode t ++ rest) ≡ t
 unfolding tableIn
 read-back t rest F = ap decode (take-at (encode t) rest TABLE_WORDS (length-encode t)) ∙ decode-encode t F
 
@@ -85,9 +85,12 @@ empty-words : (slice : List ℕ) → TABLE_WORDS ≤ length slice → emptyCall 
 unfolding emptyCall
 empty-words slice l = rw (le-ltb (length slice) TABLE_WORDS l)
 
-pub reached-empty : (slice : List ℕ) → TABLE_WORDS ≤ length slice → Reached (emptyCall slice .1) (λ n. blank)
+reached-empty : (slice : List ℕ) → TABLE_WORDS ≤ length slice → Reached (emptyCall slice .1) (λ n. blank)
 reached-empty slice l = subst (λ w. Reached w (λ n. blank)) (sym (empty-words slice l ∙ ap (λ w. w ++ drop TABLE_WORDS slice) bare-words))
     (reached-encode bare (drop TABLE_WORDS slice) (λ n. blank) bare-facts bare-holds)
+
+pub reached-emptied : (slice first : List ℕ) (r : ℕ) → TABLE_WORDS ≤ length slice → (r, first) ≡ emptyCall slice → Reached first (λ n. blank)
+reached-emptied slice first r l e = subst (λ x. Reached (x .1) (λ n. blank)) (sym e) (reached-empty slice l)
 
 -- whether a number is stored is whether its slot is filled
 filled : Slot → ℕ
@@ -105,6 +108,11 @@ weigh-is c n (stands r) = refl
 
 stored-is : (m : ℕ) (t : Table) (b : Book) → ((f : Entry → ℕ) → leaves f (t .pages) ≡ sumBelow m (λ n. weigh f n (b n))) → (c : ℕ) → c < m → stored t c ≡ filled (b c)
 stored-is m t b h c l = h (is c) ∙ (below-same m (λ n. weigh (is c) n (b n)) (λ n. cond (eqb n c) (filled (b n)) 0) (λ n nl. weigh-is c n (b n)) ∙ below-one m c (λ n. filled (b n)) l)
+
+-- where nothing stands, nothing is stored
+pub stored-none : (w : List ℕ) → Reached w (λ n. blank) → (c : ℕ) → c < PIECES → stored (tableIn w) c ≡ 0
+unfolding filled isBlank
+stored-none w R c l = stored-is PIECES (tableIn w) (λ n. blank) (R .holds) c l
 
 at-blank : (f : Entry → ℕ) (n : ℕ) (s : Slot) → T (isBlank s) → weigh f n s ≡ 0
 unfolding isBlank weigh

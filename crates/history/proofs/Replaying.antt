@@ -1,27 +1,25 @@
 -- Place calls one after the other: one call more, and the refusals written so far.
-use Prim.Native.Nat.{ℕ, zero, suc, _+_, _*_, _/_, _≤_, _<_}
+use Prim.Native.Nat.{ℕ, suc, _+_, _*_, _/_, _≤_, _<_}
 use native.Mathlib.Omega.{arith}
-use native.Mathlib.Nat.{not-suc-le-zero, le-of-suc-le-suc, mul-zero}
 use native.Mathlib.Numerals.{add-one}
 use mathlib.Core.Path.{_≡_, refl, sym, ap, _∙_, subst}
 use mathlib.Core.Bool.{cond}
 use mathlib.Core.List.{List, [], _∷_, _++_, append-assoc}
 use lib.ListN.{length, getD, take, drop, set}
 use lib.Dec.{ltb}
-use lib.Seq.{take-length, length-take-le, take-suc, drop-cons, drop-drop, getD-take, getD-drop, set-at}
+use lib.Seq.{take-length, length-take-le, take-suc, drop-cons, getD-take, getD-drop, set-at}
 use borrow.Author.Tests.{lt-ltb, le-ltb}
 use Rattle.pages.specs.declared.Rect.{Rect}
 use Rattle.pages.specs.Sizes.{TABLE_WORDS}
 use Rattle.pages.specs.Refusals.{ACCEPTED, TABLE_TOO_SHORT, ANSWER_TOO_SHORT}
 use Rattle.pages.specs.Rectangles.{rectOf}
-use Rattle.pages.specs.Layout.{unpack}
 use Rattle.pages.specs.Calls.{emptyCall}
 use Rattle.pages.proofs.Round.{length-unpack, getD-unpack}
 use Rattle.placing.specs.Calls.{placeSound, placeCall}
 use Rattle.history.specs.Book.{Call, blank, fed}
 use Rattle.history.specs.History.{placed, tableAfter}
 use Rattle.history.specs.Replay.{CALL_WORDS, callIn, callsOf, refusalsFrom, refusalsAfter, replayed, replayCall}
-use Rattle.history.proofs.Reached.{Reached, reached-empty, call-sound, reached-calls}
+use Rattle.history.proofs.Reached.{Reached, call-sound, reached-calls}
 
 -- one call more
 placed-more : (cs : List Call) (w : List ℕ) (c : Call) → placed w (cs ++ (c ∷ [])) ≡ placeCall (placed w cs) (c .number) (c .rect) .1
@@ -82,14 +80,9 @@ pub record Progress (first words before : List ℕ) (i : ℕ) (table answer : Li
   pub table-is : table ≡ placed first (take i (callsOf words))
   pub answer-is : answer ≡ refusalsFrom first (take i (callsOf words)) ++ drop i before
 
-pub progress-none : (slice first words before : List ℕ) (r : ℕ) → TABLE_WORDS ≤ length slice → (r, first) ≡ emptyCall slice
-    → Progress first words before 0 first before
+pub progress-none : (first words before : List ℕ) → Reached first (λ n. blank) → Progress first words before 0 first before
 unfolding placed refusalsFrom
-progress-none slice first words before r l e = record {
-  start = subst (λ x. Reached (x .1) (λ n. blank)) (sym e) (reached-empty slice l);
-  table-is = refl;
-  answer-is = refl;
-}
+progress-none first words before R = record { start = R; table-is = refl; answer-is = refl }
 
 module _ {first words before : List ℕ} {i : ℕ} {table answer : List ℕ} (P : Progress first words before i table answer) where
   abbrev done : List Call

@@ -1,12 +1,14 @@
 -- Place calls given as words: what `replay` leaves and returns.
-use Prim.Native.Nat.{ℕ, _/_}
+use Prim.Native.Nat.{ℕ, _/_, _<_}
+use mathlib.Core.Path.{_≡_}
 use mathlib.Core.Bool.{cond}
 use mathlib.Core.List.{List, [], _∷_, _++_}
 use lib.ListN.{length, getD, drop}
 use lib.Dec.{ltb}
-use Rattle.pages.specs.Sizes.{TABLE_WORDS}
+use Rattle.pages.specs.Sizes.{PIECES, TABLE_WORDS}
 use Rattle.pages.specs.Rectangles.{rectOf}
-use Rattle.pages.specs.Layout.{unpack}
+use Rattle.pages.specs.Layout.{unpack, tableIn}
+use Rattle.pages.specs.Sound.{stored}
 use Rattle.pages.specs.Refusals.{ACCEPTED, TABLE_TOO_SHORT, ANSWER_TOO_SHORT}
 use Rattle.pages.specs.Calls.{emptyCall}
 use Rattle.placing.specs.Calls.{placeCall}
@@ -46,3 +48,7 @@ replayed table calls answer =
 unfoldable pub replayCall : List ℕ → List ℕ → List ℕ → ℕ × List ℕ × List ℕ
 unfolding replayed callsOf
 replayCall table words answer = replayed table (callsOf words) answer
+
+-- the mark of each number says how often the leaves hold it: 1 where it stands, and 0 elsewhere
+abbrev pub Marked : List ℕ → List ℕ → Type 0
+Marked words marks = (c : ℕ) → c < PIECES → getD marks c 0 ≡ stored (tableIn words) c

@@ -1,17 +1,28 @@
 // Lists of place calls. specs/Demand3 states what their tables answer; `replay` runs a list that is given as words.
 use pages::ACCEPTED;
+use pages::ALREADY_STANDING;
 use pages::ANSWER_TOO_SHORT;
+use pages::NUMBER_TOO_LARGE;
+use pages::PIECES;
+use pages::RECTANGLE_NOT_VALID;
 use pages::Rect;
 use pages::TABLE_TOO_SHORT;
 use pages::TABLE_WORDS;
 ghost use mathlib.Core.Path.{_≡_};
-ghost use Prim.Native.Nat.{_+_, _<_};
+ghost use Prim.Native.Nat.{_+_, _≤_, _<_};
 ghost use lib.ListN.{length, getD};
+ghost use lib.Dec.{T};
+ghost use Rattle.pages.specs.Sizes.{PIECES, TABLE_WORDS};
 ghost use Rattle.pages.specs.Rectangles.{rectOf};
-ghost use Rattle.history.specs.Replay.{replayCall};
+ghost use Rattle.pages.specs.Sound.{sound};
+ghost use Rattle.placing.specs.Calls.{placeSound};
+ghost use Rattle.history.specs.Replay.{Marked, replayCall};
 
 // The words of a place call: number, x1, y1, x2, y2.
 pub const CALL_WORDS: usize = 5;
+
+// How many piece numbers there are, as a length.
+const NUMBERS: usize = PIECES as usize;
 
 // The rectangle of the call whose words start at `at`.
 fn rect_at(calls: &[u32], at: usize) -> Rect
@@ -26,6 +37,25 @@ fn rect_at(calls: &[u32], at: usize) -> Rect
     }
 }
 
+// A place call on a sound table. The marks say which numbers stand in it, so that no leaf is searched.
+fn place_marked(table: &mut [u32], marks: &mut [u8], number: u32, rect: Rect) -> u32
+    requires { ⌜ (TABLE_WORDS ≤ length (now table)) × T (sound (now table)) × (PIECES ≤ length (now marks)) × Marked (now table) (now marks) ⌝ }
+    ensures { λ r. ⌜ ((r, now (table .exit)) ≡ placeSound (now (table .entry)) number rect) × Marked (now (table .exit)) (now (marks .exit)) ⌝ }
+{
+    if !pages::is_valid(rect) {
+        return RECTANGLE_NOT_VALID;
+    }
+    if number >= PIECES {
+        return NUMBER_TOO_LARGE;
+    }
+    if marks[number as usize] != 0 {
+        return ALREADY_STANDING;
+    }
+    placing::place_new(table, number, rect);
+    marks[number as usize] = 1;
+    ACCEPTED
+}
+
 // Empties the table, places each call in turn and writes what it returns. Soundness follows from call to call, so it is never tested.
 pub fn replay(table: &mut [u32], calls: &[u32], refusals: &mut [u32]) -> u32
     ensures { λ r. ⌜ (r, now (table .exit), now (refusals .exit)) ≡ replayCall (now (table .entry)) (now (calls .entry)) (now (refusals .entry)) ⌝ }
@@ -38,9 +68,10 @@ pub fn replay(table: &mut [u32], calls: &[u32], refusals: &mut [u32]) -> u32
         return ANSWER_TOO_SHORT;
     }
     pages::empty(table);
+    let mut marks = [0u8; NUMBERS];
     for i in 0..count {
         let at: usize = CALL_WORDS * i;
-        refusals[i] = placing::place_sound(table, calls[at], rect_at(calls, at));
+        refusals[i] = place_marked(table, &mut marks, calls[at], rect_at(calls, at));
     }
     ACCEPTED
 }

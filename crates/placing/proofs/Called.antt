@@ -5,7 +5,7 @@ use mathlib.Core.Path.{_≡_, refl, sym, ap, _∙_}
 use mathlib.Core.Logic.{_≢_}
 use mathlib.Core.Bool.{Bool, true, false, not, cond}
 use mathlib.Core.List.{List}
-use lib.ListN.{length, getD}
+use lib.ListN.{length}
 use lib.Dec.{T, leb, eqb}
 use borrow.Author.Tests.{leb-false, le-leb, lt-leb, eqb-true, eq-eqb, ne-eqb}
 use Rattle.pages.specs.declared.Rect.{Rect}
@@ -15,8 +15,7 @@ use Rattle.pages.specs.Rectangles.{valid}
 use Rattle.pages.specs.Layout.{tableIn}
 use Rattle.pages.specs.Sound.{stored, sound}
 use Rattle.placing.specs.Calls.{placeRefusal, placedWords, placeSound}
-use Rattle.placing.specs.Steps.{placeIn, heldBelow}
-use Rattle.placing.proofs.Joined.{placed-in, place-keeps, held-in}
+use Rattle.placing.proofs.Joined.{place-keeps}
 
 -- the first refusal whose condition holds: a the rectangle is valid, b the number is too large, d the number does not stand
 abbrev first : Bool → Bool → Bool → ℕ
@@ -55,14 +54,11 @@ call-not-valid w n r e = sym (answer w n r RECTANGLE_NOT_VALID (refusal-open w n
 pub call-too-large : (w : List ℕ) (n : ℕ) (r : Rect) → valid r ≡ true → PIECES ≤ n → (NUMBER_TOO_LARGE, w) ≡ placeSound w n r
 call-too-large w n r e l = sym (answer w n r NUMBER_TOO_LARGE (refusal-open w n r ∙ rw (e, le-leb PIECES n l)))
 
-pub call-stands : (w : List ℕ) (n : ℕ) (r : Rect) → TABLE_WORDS ≤ length w → T (sound w) → valid r ≡ true → n < PIECES → heldBelow w n (getD w 0 0) ≢ 0 → (ALREADY_STANDING, w) ≡ placeSound w n r
-call-stands w n r wl h e l s = sym (answer w n r ALREADY_STANDING (refusal-open w n r ∙ rw (e, lt-leb PIECES n l, ne-eqb (stored (tableIn w) n) 0 (λ z. s (held-in w n wl h ∙ z)))))
+pub call-stands : (w : List ℕ) (n : ℕ) (r : Rect) → valid r ≡ true → n < PIECES → stored (tableIn w) n ≢ 0 → (ALREADY_STANDING, w) ≡ placeSound w n r
+call-stands w n r e l s = sym (answer w n r ALREADY_STANDING (refusal-open w n r ∙ rw (e, lt-leb PIECES n l, ne-eqb (stored (tableIn w) n) 0 s)))
 
-pub call-done : (w : List ℕ) (n : ℕ) (r : Rect) → TABLE_WORDS ≤ length w → T (sound w) → valid r ≡ true → n < PIECES → heldBelow w n (getD w 0 0) ≡ 0 → (ACCEPTED, placeIn w n r) ≡ placeSound w n r
-call-done w n r wl h e l s =
-    let free : stored (tableIn w) n ≡ 0 = sym (held-in w n wl h) ∙ s in
-    sym (answer w n r ACCEPTED (refusal-open w n r ∙ rw (e, lt-leb PIECES n l, eq-eqb (stored (tableIn w) n) 0 free))
-    ∙ ap (λ v. (ACCEPTED, v)) (sym (placed-in w n r wl h (rw e tt) l free)))
+pub call-done : (w : List ℕ) (n : ℕ) (r : Rect) → valid r ≡ true → n < PIECES → stored (tableIn w) n ≡ 0 → (ACCEPTED, placedWords w n r) ≡ placeSound w n r
+call-done w n r e l s = sym (answer w n r ACCEPTED (refusal-open w n r ∙ rw (e, lt-leb PIECES n l, eq-eqb (stored (tableIn w) n) 0 s)))
 
 -- accepted or refused, the table is sound again, and the slice as long
 pub call-keeps : (w : List ℕ) (n : ℕ) (r : Rect) → TABLE_WORDS ≤ length w → T (sound w) → T (sound (placeSound w n r .1)) × (length (placeSound w n r .1) ≡ length w)

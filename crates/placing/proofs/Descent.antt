@@ -12,12 +12,13 @@ use borrow.Author.Tests.{lt-ltb}
 use Rattle.pages.specs.declared.Rect.{Rect}
 use Rattle.pages.specs.declared.Entry.{Entry}
 use Rattle.pages.specs.Sizes.{FANOUT, PAGES}
+use Rattle.pages.specs.Rectangles.{entryOf, widen, bounds}
 use Rattle.pages.specs.Layout.{Page, pageOf, noEntry, noPage, pageAt, encodePage, pageWords}
 use Rattle.pages.specs.Readers.{entryIn}
-use Rattle.placing.specs.Place.{choose, Step, fill, entryFor, renew, down}
-use Rattle.placing.specs.Steps.{entrySet, putPage, writtenOf, addTo, entryAt, resetEntry, settled, chosenIn, placeAt}
-use Rattle.placing.proofs.Fill.{choose-below}
-use Rattle.placing.proofs.Keeps.{After, Before, child, child-in, child-level, one-T, after}
+use Rattle.placing.specs.Place.{choose, Step, stepOf, fill, entryFor, renew, down}
+use Rattle.placing.specs.Steps.{entrySet, putPage, writtenOf, addTo, entryAt, resetEntry, widenedBy, widenEntry, settled, chosenIn, placeAt}
+use Rattle.placing.proofs.Fill.{spread, choose-below}
+use Rattle.placing.proofs.Keeps.{After, Before, child, child-in, child-level, child-around, one-T, after}
 use Rattle.placing.proofs.PageWords.{entry-in, filled-in, entry-set}
 use Rattle.placing.proofs.TableWords.{tabled, pages-word, page-words, entry-at, page-set}
 use Rattle.placing.proofs.Adding.{written, fill-kept, fill-grows, add-fill}
@@ -28,10 +29,14 @@ reset-open : (t : List ℕ) (p i q : ℕ) → resetEntry t p i q ≡ putPage t p
 unfolding resetEntry
 reset-open t p i q = refl
 
-settle-open : (p i q : ℕ) (t : List ℕ) (b : Bool) → settled p i q (writtenOf t b)
-    ≡ cond b (addTo (resetEntry t p i q) p (entryAt (resetEntry t p i q) (getD (resetEntry t p i q) 0 0 - 1))) (writtenOf (resetEntry t p i q) false)
+widen-open : (t : List ℕ) (p i : ℕ) (new : Rect) → widenEntry t p i new ≡ putPage t p (entrySet (pageWords t p) i (widenedBy new (entryIn (pageWords t p) i)))
+unfolding widenEntry
+widen-open t p i new = refl
+
+settle-open : (p i q : ℕ) (new : Rect) (t : List ℕ) (b : Bool) → settled p i q new (writtenOf t b)
+    ≡ cond b (addTo (resetEntry t p i q) p (entryAt (resetEntry t p i q) (getD (resetEntry t p i q) 0 0 - 1))) (writtenOf (widenEntry t p i new) false)
 unfolding settled
-settle-open p i q t b = refl
+settle-open p i q new t b = refl
 
 renew-open : (es : List Entry) (i : ℕ) (s : Step) → renew es i s
     ≡ set es i (entryFor (getD es i noEntry .r) (s .pages)) ++ cond (s .split) (entryFor (length (s .pages) - 1) (s .pages) ∷ []) []
@@ -43,12 +48,16 @@ refill : (p : ℕ) (fs : List Entry) (ps : List Page) (g : Page) → p < length 
 unfolding fill
 refill p fs ps g l e = rw (getD-set-same ps p g noPage l, e) (simp set-set)
 
+entry-open : (q : ℕ) (ps : List Page) → entryFor q ps ≡ entryOf (bounds (pageAt ps q .entries)) q
+unfolding entryFor
+entry-open q ps = refl
+
 same-entry : (q : ℕ) (ps qs : List Page) → pageAt qs q ≡ pageAt ps q → entryFor q qs ≡ entryFor q ps
 unfolding entryFor
 same-entry q ps qs e = rw e
 
--- the entry of page p at place i is set to its child's bounds; s is what was left there
-module _ (a c : ℕ) (rest : List ℕ) (s : Step) (p i : ℕ) (pl : p < length (s .pages)) (most : length (s .pages) ≤ PAGES)
+-- the entry of page p at place i gets its child's bounds; s is what was left there, with a new rectangle
+module _ (a c : ℕ) (rest : List ℕ) (s : Step) (new : Rect) (p i : ℕ) (pl : p < length (s .pages)) (most : length (s .pages) ≤ PAGES)
     (il : i < length (pageAt (s .pages) p .entries)) (eight : (q : ℕ) → q < length (s .pages) → length (pageAt (s .pages) q .entries) ≤ FANOUT)
     (ql : getD (pageAt (s .pages) p .entries) i noEntry .r < length (s .pages)) where
   abbrev ps : List Page
@@ -57,8 +66,11 @@ module _ (a c : ℕ) (rest : List ℕ) (s : Step) (p i : ℕ) (pl : p < length (
   abbrev g : Page
   g = pageAt ps p
 
+  abbrev x : Entry
+  x = getD (g .entries) i noEntry
+
   abbrev q : ℕ
-  q = getD (g .entries) i noEntry .r
+  q = x .r
 
   abbrev es : List Entry
   es = set (g .entries) i (entryFor q ps)
@@ -70,10 +82,22 @@ module _ (a c : ℕ) (rest : List ℕ) (s : Step) (p i : ℕ) (pl : p < length (
   reset-is = reset-open (tabled a c ps rest) p i q
       ∙ rw (page-words a c ps rest p (omega arith), entry-at a c ps rest q (omega arith) (eight q ql), entry-set g i (entryFor q ps) il (eight p pl), page-set a c ps rest p (pageOf (g .level) es) pl (omega arith))
 
-  settle-whole : settled p i q (writtenOf (tabled a c ps rest) false) ≡ written a c rest (fill p es ps)
-  settle-whole =
-      settle-open p i q (tabled a c ps rest) false
-      ∙ (ap (λ t. writtenOf t false) reset-is ∙ ap (written a c rest) (sym (fill-kept p es ps (omega (arith, length-set (g .entries) i (entryFor q ps), eight p pl)))))
+  -- without a split the bounds are the old ones, widened
+  module _ (w : bounds (pageAt ps q .entries) ≡ widen (x .rect) new) where
+    widened : widenedBy new (entryIn (pageWords (tabled a c ps rest) p) i) ≡ entryAt (tabled a c ps rest) q
+    widened =
+        ap (λ v. widenedBy new (entryIn v i)) (page-words a c ps rest p (omega arith))
+        ∙ (ap (widenedBy new) (entry-in g i (omega (arith, eight p pl)))
+        ∙ (ap (λ r. entryOf r q) (sym w) ∙ (sym (entry-open q ps) ∙ sym (entry-at a c ps rest q (omega arith) (eight q ql)))))
+
+    widen-is : widenEntry (tabled a c ps rest) p i new ≡ tabled a c qs rest
+    widen-is = widen-open (tabled a c ps rest) p i new
+        ∙ (ap (λ y. putPage (tabled a c ps rest) p (entrySet (pageWords (tabled a c ps rest) p) i y)) widened ∙ (sym (reset-open (tabled a c ps rest) p i q) ∙ reset-is))
+
+    settle-whole : settled p i q new (writtenOf (tabled a c ps rest) false) ≡ written a c rest (fill p es ps)
+    settle-whole =
+        settle-open p i q new (tabled a c ps rest) false
+        ∙ (ap (λ t. writtenOf t false) widen-is ∙ ap (written a c rest) (sym (fill-kept p es ps (omega (arith, length-set (g .entries) i (entryFor q ps), eight p pl)))))
 
   -- the last page is not p
   module _ (n : length ps - 1 ≢ p) where
@@ -98,9 +122,9 @@ module _ (a c : ℕ) (rest : List ℕ) (s : Step) (p i : ℕ) (pl : p < length (
     fill-is : fill p (pageAt qs p .entries ++ (y ∷ [])) qs ≡ fill p (es ++ (y ∷ [])) ps
     fill-is = ap (λ x. fill p (x .entries ++ (y ∷ [])) qs) here ∙ refill p (es ++ (y ∷ [])) ps (pageOf (g .level) es) pl refl
 
-    settle-split : length (fill p (es ++ (y ∷ [])) ps .pages) ≤ PAGES → settled p i q (writtenOf (tabled a c ps rest) true) ≡ written a c rest (fill p (es ++ (y ∷ [])) ps)
+    settle-split : length (fill p (es ++ (y ∷ [])) ps .pages) ≤ PAGES → settled p i q new (writtenOf (tabled a c ps rest) true) ≡ written a c rest (fill p (es ++ (y ∷ [])) ps)
     settle-split h =
-        settle-open p i q (tabled a c ps rest) true
+        settle-open p i q new (tabled a c ps rest) true
         ∙ (ap (λ t. addTo t p (entryAt t (getD t 0 0 - 1))) reset-is
         ∙ (ap (addTo (tabled a c qs rest) p) last-is
         ∙ (add-fill a c qs rest p y (omega (arith, length-set ps p (pageOf (g .level) es))) (omega arith)
@@ -108,14 +132,14 @@ module _ (a c : ℕ) (rest : List ℕ) (s : Step) (p i : ℕ) (pl : p < length (
         (omega (arith, ap (λ x. length (x .pages)) fill-is))
         ∙ ap (written a c rest) fill-is)))
 
-  settle-fill : (T (s .split) → length ps - 1 ≢ p) → length (fill p (renew (g .entries) i s) ps .pages) ≤ PAGES
-      → settled p i q (written a c rest s) ≡ written a c rest (fill p (renew (g .entries) i s) ps)
+  settle-fill : (T (s .split) → length ps - 1 ≢ p) → length (fill p (renew (g .entries) i s) ps .pages) ≤ PAGES → spread q s ≡ widen (x .rect) new
+      → settled p i q new (written a c rest s) ≡ written a c rest (fill p (renew (g .entries) i s) ps)
   settle-fill = go (s .split) (renew (g .entries) i s) (renew-open (g .entries) i s)
     where
       go : (b : Bool) (fs : List Entry) → fs ≡ es ++ cond b (entryFor (length ps - 1) ps ∷ []) [] → (T b → length ps - 1 ≢ p) → length (fill p fs ps .pages) ≤ PAGES
-          → settled p i q (writtenOf (tabled a c ps rest) b) ≡ written a c rest (fill p fs ps)
-      go true fs e n h = settle-split (n tt) (omega (arith, ap (λ x. length (fill p x ps .pages)) e)) ∙ ap (λ x. written a c rest (fill p x ps)) (sym e)
-      go false fs e n h = settle-whole ∙ ap (λ x. written a c rest (fill p x ps)) (sym (e ∙ append-nil es))
+          → spread q (stepOf ps b) ≡ widen (x .rect) new → settled p i q new (writtenOf (tabled a c ps rest) b) ≡ written a c rest (fill p fs ps)
+      go true fs e n h w = settle-split (n tt) (omega (arith, ap (λ z. length (fill p z ps .pages)) e)) ∙ ap (λ z. written a c rest (fill p z ps)) (sym e)
+      go false fs e n h w = settle-whole w ∙ ap (λ z. written a c rest (fill p z ps)) (sym (e ∙ append-nil es))
 
 chosen-is : (g : Page) (r : Rect) → length (g .entries) ≤ FANOUT → chosenIn (encodePage g) r ≡ choose r (g .entries)
 unfolding chosenIn
@@ -126,17 +150,17 @@ unfolding placeAt
 leaf-open t p e l = rw (lt-ltb p PAGES l)
 
 above-open : (l : ℕ) (t : List ℕ) (p : ℕ) (e : Entry) → placeAt (suc l) t p e
-    ≡ cond (ltb p PAGES) (settled p (chosenIn (pageWords t p) (e .rect)) (entryIn (pageWords t p) (chosenIn (pageWords t p) (e .rect)) .r)
+    ≡ cond (ltb p PAGES) (settled p (chosenIn (pageWords t p) (e .rect)) (entryIn (pageWords t p) (chosenIn (pageWords t p) (e .rect)) .r) (e .rect)
     (placeAt l t (entryIn (pageWords t p) (chosenIn (pageWords t p) (e .rect)) .r) e)) (writtenOf t false)
 unfolding placeAt
 above-open l t p e = refl
 
 above-in : (l : ℕ) (t : List ℕ) (p : ℕ) (e : Entry) → p < PAGES → (i j : ℕ) → chosenIn (pageWords t p) (e .rect) ≡ i → entryIn (pageWords t p) i .r ≡ j
-    → placeAt (suc l) t p e ≡ settled p i j (placeAt l t j e)
+    → placeAt (suc l) t p e ≡ settled p i j (e .rect) (placeAt l t j e)
 above-in l t p e h i j ei ej =
     above-open l t p e
-    ∙ rw (lt-ltb p PAGES h) (ap (λ k. settled p k (entryIn (pageWords t p) k .r) (placeAt l t (entryIn (pageWords t p) k .r) e)) ei
-    ∙ ap (λ k. settled p i k (placeAt l t k e)) ej)
+    ∙ rw (lt-ltb p PAGES h) (ap (λ k. settled p k (entryIn (pageWords t p) k .r) (e .rect) (placeAt l t (entryIn (pageWords t p) k .r) e)) ei
+    ∙ ap (λ k. settled p i k (e .rect) (placeAt l t k e)) ej)
 
 down-leaf : (p : ℕ) (e : Entry) (ps : List Page) → down zero p e ps ≡ fill p (pageAt ps p .entries ++ (e ∷ [])) ps
 unfolding down
@@ -154,13 +178,14 @@ module _ (a c : ℕ) (rest : List ℕ) (ps : List Page) (B : Before ps) (l p i :
   same-here = A .frame p pl (λ h. omega (arith, ap (λ x. pageAt ps x .level) h, lv, child-level ps B l p i pl lv il)) (omega arith)
 
   above-settled : length (fill p (renew (pageAt ps p .entries) i s) (s .pages) .pages) ≤ PAGES
-      → settled p i (child ps p i) (written a c rest s) ≡ written a c rest (fill p (renew (pageAt ps p .entries) i s) (s .pages))
+      → settled p i (child ps p i) (e .rect) (written a c rest s) ≡ written a c rest (fill p (renew (pageAt ps p .entries) i s) (s .pages))
   above-settled most = subst (λ g. length (fill p (renew (g .entries) i s) (s .pages) .pages) ≤ PAGES
-      → settled p i (getD (g .entries) i noEntry .r) (written a c rest s) ≡ written a c rest (fill p (renew (g .entries) i s) (s .pages))) same-here
-      (settle-fill a c rest s p i (omega (arith, A .grown)) (omega (arith, fill-grows p (renew (pageAt ps p .entries) i s) (s .pages)))
+      → spread (getD (g .entries) i noEntry .r) s ≡ widen (getD (g .entries) i noEntry .rect) (e .rect)
+      → settled p i (getD (g .entries) i noEntry .r) (e .rect) (written a c rest s) ≡ written a c rest (fill p (renew (g .entries) i s) (s .pages))) same-here
+      (settle-fill a c rest s (e .rect) p i (omega (arith, A .grown)) (omega (arith, fill-grows p (renew (pageAt ps p .entries) i s) (s .pages)))
       (omega (arith, ap (λ g. length (g .entries)) same-here)) (A .eight)
       (omega (arith, ap (λ g. getD (g .entries) i noEntry .r) same-here, child-in ps B l p i pl lv il, A .grown))
-      (λ b. omega (arith, A .grown, one-T (s .split) b))) most
+      (λ b. omega (arith, A .grown, one-T (s .split) b))) most (child-around ps B l p i pl lv il e s A)
 
 -- the way down into page p and back
 pub place-down : (a c : ℕ) (rest : List ℕ) (l p : ℕ) (e : Entry) (ps : List Page) → Before ps → p < length ps → pageAt ps p .level ≡ l → length (down l p e ps .pages) ≤ PAGES
@@ -185,5 +210,5 @@ place-down a c rest (suc l) p e ps B pl lv most =
     let pw : pageWords w p ≡ encodePage g = page-words a c ps rest p small in
     above-in l w p e small i q (ap (λ v. chosenIn v (e .rect)) pw ∙ chosen-is g (e .rect) (B .eight p pl))
     (ap (λ v. entryIn v i .r) pw ∙ ap (λ x. x .r) (entry-in g i (omega (arith, B .eight p pl))))
-    ∙ (ap (settled p i q) (place-down a c rest l q e ps B (child-in ps B l p i pl lv il) (child-level ps B l p i pl lv il) few)
+    ∙ (ap (settled p i q (e .rect)) (place-down a c rest l q e ps B (child-in ps B l p i pl lv il) (child-level ps B l p i pl lv il) few)
     ∙ (above-settled a c rest ps B l p i e pl lv il s A fits ∙ ap (written a c rest) (sym d)))

@@ -1,8 +1,8 @@
 -- What a step on one page leaves.
-use Prim.Native.Nat.{ℕ, suc, _+_, _≤_, _<_, min}
+use Prim.Native.Nat.{ℕ, suc, _+_, _-_, _≤_, _<_, min}
 use native.Mathlib.Omega.{arith}
 use native.Mathlib.Decide.{decLt}
-use mathlib.Core.Path.{_≡_, refl, _∙_}
+use mathlib.Core.Path.{_≡_, refl, sym, ap, _∙_}
 use mathlib.Core.Logic.{_≢_}
 use mathlib.Core.Bool.{Bool, true, false, cond}
 use mathlib.Core.List.{List, [], _∷_, _++_}
@@ -12,14 +12,22 @@ use lib.Dec.{T, leb, leb→le, le→leb}
 use Rattle.pages.specs.declared.Rect.{Rect}
 use Rattle.pages.specs.declared.Entry.{Entry}
 use Rattle.pages.specs.Lists.{one, sum}
+use Rattle.pages.specs.Rectangles.{widen, bounds}
 use Rattle.pages.specs.Layout.{Page, pageOf, noPage, pageAt}
 use Rattle.pages.proofs.Lists.{Every, every-take, every-drop, sum-append, sum-set}
 use Rattle.placing.specs.Place.{before, scan, choose, ordered, Step, stepOf, fill}
 use Rattle.placing.proofs.Sort.{length-ordered, sum-parts, every-ordered}
+use Rattle.placing.proofs.Bounding.{bounds-parts}
 
 -- q is the page p that was filled, or new
 abbrev pub Touched : List Page → ℕ → ℕ → Type 0
 Touched ps p q = q < length ps → q ≡ p
+
+-- the bounds of what the step s left in page p and in the page that split off it
+abbrev pub spread : ℕ → Step → Rect
+spread p s =
+    let here : Rect = bounds (pageAt (s .pages) p .entries) in
+    cond (s .split) (widen here (bounds (pageAt (s .pages) (length (s .pages) - 1) .entries))) here
 
 -- page p was to hold es, and the step s was left
 pub record Fill (ps : List Page) (p : ℕ) (es : List Entry) (s : Step) : Type 1 where
@@ -32,6 +40,7 @@ pub record Fill (ps : List Page) (p : ℕ) (es : List Entry) (s : Step) : Type 1
   pub every : (P : Entry → Type 0) → Every P es → (q : ℕ) → q < length (s .pages) → Touched ps p q → Every P (pageAt (s .pages) q .entries)
   pub total : (W : Page → ℕ) (g : Entry → ℕ) → ((xs : List Entry) → W (pageOf (pageAt ps p .level) xs) ≡ sum g xs)
       → sum W (s .pages) + sum g (pageAt ps p .entries) ≡ sum W ps + sum g es
+  pub around : spread p s ≡ bounds es
 
 leb-no : (m n : ℕ) → leb m n ≡ false → n < m
 leb-no m n e = go (decLt n m)
@@ -67,16 +76,22 @@ module _ (ps : List Page) (p : ℕ) (es : List Entry) (pl : p < length ps) (le :
       let e : q ≡ p = tq (omega (arith, length-set ps p (pageOf l es))) in
       rw (e, getD-set-same ps p (pageOf l es) noPage pl) h
 
+  cut-here : pageAt (set ps p fst4 ++ (snd5 ∷ [])) p ≡ fst4
+  cut-here = List·getD-append (set ps p fst4) (snd5 ∷ []) noPage p (omega (arith, length-set ps p fst4)) ∙ getD-set-same ps p fst4 noPage pl
+
+  cut-last : (q : ℕ) → q ≡ length ps → pageAt (set ps p fst4 ++ (snd5 ∷ [])) q ≡ snd5
+  cut-last q e = getD-at (set ps p fst4) snd5 [] noPage q (length-set ps p fst4 ∙ sym e)
+
   in-cut : (Q : Page → Type 0) → Q fst4 → Q snd5 → (q : ℕ) → q < length (set ps p fst4 ++ (snd5 ∷ [])) → Touched ps p q → Q (pageAt (set ps p fst4 ++ (snd5 ∷ [])) q)
   in-cut Q h k q ql tq = go (decLt q (length ps))
     where
       go : Dec (q < length ps) → Q (pageAt (set ps p fst4 ++ (snd5 ∷ [])) q)
       go (yes a) =
           let e : q ≡ p = tq a in
-          rw (e, List·getD-append (set ps p fst4) (snd5 ∷ []) noPage p (omega (arith, length-set ps p fst4)), getD-set-same ps p fst4 noPage pl) h
+          rw (e, cut-here) h
       go (no a) =
-          let e : length (set ps p fst4) ≡ q = omega (arith, length-set ps p fst4, length-append (set ps p fst4) (snd5 ∷ [])) in
-          rw (getD-at (set ps p fst4) snd5 [] noPage q e) k
+          let e : q ≡ length ps = omega (arith, length-set ps p fst4, length-append (set ps p fst4) (snd5 ∷ [])) in
+          rw (cut-last q e) k
 
   fill-kept : length es ≤ 8 → Fill ps p es kept
   fill-kept h = record {
@@ -88,6 +103,7 @@ module _ (ps : List Page) (p : ℕ) (es : List Entry) (pl : p < length ps) (le :
     whole = λ b. absurd b;
     every = λ P e. in-kept (λ x. Every P (x .entries)) e;
     total = λ W g h. omega (arith, sum-set W ps p (pageOf l es) noPage pl, h es, h (pageAt ps p .entries));
+    around = ap (λ x. bounds (x .entries)) (getD-set-same ps p (pageOf l es) noPage pl);
   }
 
   fill-cut : 8 < length es → Fill ps p es cut
@@ -100,6 +116,10 @@ module _ (ps : List Page) (p : ℕ) (es : List Entry) (pl : p < length ps) (le :
     whole = λ b. omega arith;
     every = λ P e. in-cut (λ x. Every P (x .entries)) (every-take P 4 (ordered es) (every-ordered P es e)) (every-drop P 4 (ordered es) (every-ordered P es e));
     total = λ W g h. omega (arith, sum-append W (set ps p fst4) (snd5 ∷ []), sum-set W ps p fst4 noPage pl, h (take 4 (ordered es)), h (drop 4 (ordered es)), h (pageAt ps p .entries), sum-parts g es);
+    around =
+        let m : length (set ps p fst4 ++ (snd5 ∷ [])) - 1 ≡ length ps = omega (arith, length-set ps p fst4, length-append (set ps p fst4) (snd5 ∷ [])) in
+        ap (λ x. widen (bounds (x .entries)) (bounds (pageAt (set ps p fst4 ++ (snd5 ∷ [])) (length (set ps p fst4 ++ (snd5 ∷ [])) - 1) .entries))) cut-here
+        ∙ (ap (λ x. widen (bounds (fst4 .entries)) (bounds (x .entries))) (cut-last (length (set ps p fst4 ++ (snd5 ∷ [])) - 1) m) ∙ bounds-parts es (omega arith));
   }
 
   pub filled : Fill ps p es (fill p es ps)

@@ -12,14 +12,16 @@ use lib.Seq.{getD-set-same, getD-set-other}
 use lib.Dec.{T, leb, ltb, eqb}
 use Rattle.pages.specs.declared.Entry.{Entry}
 use Rattle.pages.specs.Lists.{one, sum}
-use Rattle.pages.specs.Rectangles.{bounds}
+use Rattle.pages.specs.Rectangles.{widen, bounds}
 use Rattle.pages.specs.Layout.{Page, pageOf, noEntry, noPage, pageAt}
 use Rattle.pages.specs.Sound.{childEntries, pieceEntries, is}
 use Rattle.pages.proofs.Lists.{Every, every, every-at, at-every, every-map, every-both, every-append, sum-append, sum-set, sum-at, sum-two, sum-zero}
 use Rattle.pages.proofs.Below.{eqb-yes, eqb-no, leb-is, leb-not}
+use Rattle.pages.proofs.Bounds.{bounds-last}
 use Rattle.pages.proofs.Entries.{Fits, refit, names, leaves, leaf-children, above-children, above-pieces}
 use Rattle.placing.specs.Place.{choose, Step, entryFor, renew, down}
-use Rattle.placing.proofs.Fill.{Touched, Fill, filled, choose-below}
+use Rattle.placing.proofs.Bounding.{bounds-renewed}
+use Rattle.placing.proofs.Fill.{Touched, spread, Fill, filled, choose-below}
 
 -- 1 for a q from k on and below m
 abbrev pub between : ℕ → ℕ → ℕ → ℕ
@@ -30,7 +32,8 @@ abbrev pub loose : Step → ℕ → ℕ
 loose s q = cond (s .split) (one (eqb (length (s .pages) - 1) q)) 0
 
 -- after the way down from page p at level l, with e, and back: s is left. All that soundness asks of the pages at level l and below
--- holds, but that page p's entry above is stale and that no entry above names the page that split off. Nothing else has changed
+-- holds, but that page p's entry above is stale and that no entry above names the page that split off. Nothing else has changed, and the
+-- bounds of page p, with those of what split off, are the old ones widened by e
 pub record After (ps : List Page) (l p : ℕ) (e : Entry) (s : Step) : Type 0 where
   pub grown : length ps + one (s .split) ≤ length (s .pages)
   pub kept : (q : ℕ) → q < length ps → pageAt (s .pages) q .level ≡ pageAt ps q .level
@@ -44,6 +47,7 @@ pub record After (ps : List Page) (l p : ℕ) (e : Entry) (s : Step) : Type 0 wh
   pub eight : (q : ℕ) → q < length (s .pages) → length (pageAt (s .pages) q .entries) ≤ 8
   pub naming : (q : ℕ) → names (s .pages) q + loose s q ≡ names ps q + between (length ps) (length (s .pages)) q
   pub holding : (f : Entry → ℕ) → leaves f (s .pages) ≡ f e + leaves f ps
+  pub around : 0 < length (pageAt ps p .entries) → spread p s ≡ widen (bounds (pageAt ps p .entries)) (e .rect)
 
 -- what is asked of the pages at the start
 pub record Before (ps : List Page) : Type 0 where
@@ -51,6 +55,7 @@ pub record Before (ps : List Page) : Type 0 where
   pub some : (q : ℕ) → q < length ps → 0 < pageAt ps q .level → 0 < length (pageAt ps q .entries)
   pub eight : (q : ℕ) → q < length ps → length (pageAt ps q .entries) ≤ 8
   pub once : (q : ℕ) → q < length ps → names ps q ≤ 1
+  pub full : (q : ℕ) → q < length ps → 0 < names ps q → 0 < length (pageAt ps q .entries)
 
 -- tests
 
@@ -159,6 +164,7 @@ module _ (ps : List Page) (p : ℕ) (e : Entry) (B : Before ps) (pl : p < length
     eight = each ps p es s F pl (λ q. length (pageAt (s .pages) q .entries) ≤ 8) (λ q l n. rw (F .same q l n) (B .eight q l)) (F .most);
     naming = λ q. omega (arith, leaf-names q, between-none (length ps) q, between-step (length ps) (length ps) (s .split) q (length (s .pages)) (omega arith) (F .len));
     holding = leaf-holds;
+    around = λ l. F .around ∙ bounds-last (pageAt ps p .entries) e l;
   }
 
 -- the child at place i of page p
@@ -211,6 +217,18 @@ module _ (ps : List Page) (B : Before ps) (l p i : ℕ) (pl : p < length ps) (lv
 
   sum-here : (f : Entry → ℕ) → sum f (childEntries (pageAt ps p)) ≡ sum f (pageAt ps p .entries)
   sum-here f = ap (sum f) (above-children (pageAt ps p) l lv)
+
+  -- the child is named, so it is not the root, and has entries
+  child-some : 0 < length (pageAt ps (child ps p i) .entries)
+  child-some =
+      let c : ℕ = child ps p i in
+      let a = sum-at (is c) (pageAt ps p .entries) i noEntry il in
+      let b = sum-at (λ x. sum (is c) (childEntries x)) ps p noPage pl in
+      B .full c child-in (omega (arith, a, b, sum-here (is c), is-self (getD (pageAt ps p .entries) i noEntry)))
+
+  -- the step into the child widens what its entry holds
+  pub child-around : (e : Entry) (s : Step) → After ps l (child ps p i) e s → spread (child ps p i) s ≡ widen (getD (pageAt ps p .entries) i noEntry .rect) (e .rect)
+  child-around e s A = A .around child-some ∙ ap (λ r. widen r (e .rect)) (sym (fits-child .exact))
 
   -- no other entry names the child
   only-page : (q : ℕ) → q < length ps → q ≢ p → Every (λ x. x .r ≢ child ps p i) (childEntries (pageAt ps q))
@@ -351,6 +369,11 @@ module _ (ps : List Page) (B : Before ps) (l p i : ℕ) (e : Entry) (pl : p < le
       let lq : pageAt (u .pages) q .level ≡ suc l = F .level q ql tq ∙ level-here in
       rw (above-children (pageAt (u .pages) q) l lq, lq) (F .every (Fits (u .pages) (suc l)) fits-renew q ql tq)
 
+  step-around : bounds es′ ≡ widen (bounds (pageAt ps p .entries)) (e .rect)
+  unfolding renew entryFor
+  step-around = bounds-renewed (pageAt ps p .entries) i (entryFor (child ps p i) (s .pages)) (entryFor (length (s .pages) - 1) (s .pages)) (s .split) (e .rect) il
+      (child-around ps B l p i pl lv il e s A)
+
   step-fresh : (q : ℕ) → q < length (u .pages) → length ps ≤ q → pageAt (u .pages) q .level ≤ suc l
   step-fresh = each (s .pages) p es′ u F in-s (λ q. length ps ≤ q → pageAt (u .pages) q .level ≤ suc l)
       (λ q ql n k. rw (F .same q ql n) (omega (arith, A .fresh q k ql))) (λ q ql tq k. omega (arith, F .level q ql tq, level-here))
@@ -377,6 +400,7 @@ module _ (ps : List Page) (B : Before ps) (l p i : ℕ) (e : Entry) (pl : p < le
     eight = each (s .pages) p es′ u F in-s (λ q. length (pageAt (u .pages) q .entries) ≤ 8) (λ q ql n. rw (F .same q ql n) (A .eight q ql)) (F .most);
     naming = λ q. omega (arith, step-names q, between-step (length ps) (length (s .pages)) (u .split) q (length (u .pages)) (omega (arith, A .grown)) (F .len));
     holding = step-holds;
+    around = λ k. F .around ∙ step-around;
   }
 
 -- all the way

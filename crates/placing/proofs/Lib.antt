@@ -1,4 +1,5 @@
 pub mod Sort
+pub mod Bounding
 pub mod Fill
 pub mod Keeps
 pub mod Placed

@@ -45,8 +45,16 @@ module _ (t : Table) (F : Facts t) where
           omega arith
       go false k = omega arith
 
+  named-full : (q : ℕ) → q < length (t .pages) → 0 < names (t .pages) q → 0 < length (page t q .entries)
+  unfolding fewest
+  named-full q l h = go (eqb q (t .root)) (F .once q l) (F .enough q l)
+    where
+      go : (b : Bool) → names (t .pages) q ≡ cond b 0 1 → cond b (cond (leaf (page t q)) 0 2) 4 ≤ length (page t q .entries) → 0 < length (page t q .entries)
+      go true n k = absurd (omega (arith, h))
+      go false n k = omega arith
+
   pub before : Before (t .pages)
-  before = record { fits = fits-all t F; some = not-bare; eight = F .eight; once = one-more }
+  before = record { fits = fits-all t F; some = not-bare; eight = F .eight; once = one-more; full = named-full }
 
   -- nothing names a page from k on
   beyond : (q : ℕ) → length (t .pages) ≤ q → names (t .pages) q ≡ 0

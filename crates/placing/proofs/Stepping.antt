@@ -12,11 +12,11 @@ use borrow.Author.Tests.{lt-ltb, le-ltb, leb-true, leb-false}
 use Rattle.pages.specs.declared.Rect.{Rect}
 use Rattle.pages.specs.declared.Entry.{Entry}
 use Rattle.pages.specs.Sizes.{FANOUT, PAGES}
-use Rattle.pages.specs.Rectangles.{rectOf, entryOf, bounds}
+use Rattle.pages.specs.Rectangles.{rectOf, entryOf, widen, bounds}
 use Rattle.pages.specs.Layout.{pageOf, encodePage, pageWords}
 use Rattle.pages.specs.Readers.{entryIn, entriesIn}
 use Rattle.placing.specs.Place.{ordered}
-use Rattle.placing.specs.Steps.{countIn, appended, entrySet, putPage, splitInto, Written, writtenOf, addTo, boundsAt, entryAt, resetEntry, settled, chosenIn, placeAt, rootMade, placeIn}
+use Rattle.placing.specs.Steps.{countIn, appended, entrySet, putPage, splitInto, Written, writtenOf, addTo, boundsAt, entryAt, resetEntry, widenEntry, settled, chosenIn, placeAt, rootMade, placeIn}
 
 -- the answer and the words of a step
 abbrev pub Leaves : Written → Bool → List ℕ → Type 0
@@ -42,6 +42,11 @@ bounds-out t q h = rw (le-ltb q PAGES h)
 pub reset-is : (t v : List ℕ) (p i q : ℕ) (e : Entry) → e ≡ entryAt t q → v ≡ putPage t p (entrySet (pageWords t p) i e) → v ≡ resetEntry t p i q
 unfolding resetEntry
 reset-is t v p i q e a b = b ∙ ap (λ x. putPage t p (entrySet (pageWords t p) i x)) a
+
+pub widen-is : (t w v : List ℕ) (p i : ℕ) (new r : Rect) (e : Entry) → w ≡ pageWords t p → e ≡ entryIn w i → r ≡ widen (e .rect) new
+    → v ≡ putPage t p (entrySet (pageWords t p) i (entryOf r (e .r))) → v ≡ widenEntry t p i new
+unfolding widenEntry
+widen-is t w v p i new r e a b c d = d ∙ rw (c, b, a)
 
 pub split-is : (t w : List ℕ) (p k : ℕ) (e : Entry) (es : List Entry) (u v : List ℕ) → length es ≡ 9 → w ≡ pageWords t p → es ≡ ordered (entriesIn w FANOUT ++ (e ∷ []))
     → u ≡ putPage t p (encodePage (pageOf (getD w 0 0) (take 4 (drop 0 es)))) → v ≡ putPage u k (encodePage (pageOf (getD w 0 0) (take 5 (drop 4 es)))) → v ≡ splitInto t p k e
@@ -70,14 +75,14 @@ module _ (t : List ℕ) (p : ℕ) (e : Entry) (b : Bool) (full : b ≡ leb FANOU
   unfolding addTo
   add-out h k = rw (le-ltb (getD (pageWords t p) 1 0) FANOUT (none h), le-ltb (getD t 0 0) PAGES k) (refl, refl)
 
-pub settled-split : (t u v : List ℕ) (p i q : ℕ) (b r : Bool) (e : Entry) → b ≡ true → u ≡ resetEntry t p i q → e ≡ entryAt u (getD u 0 0 - 1) → Leaves (addTo u p e) r v
-    → Leaves (settled p i q (writtenOf t b)) r v
+pub settled-split : (t u v : List ℕ) (p i q : ℕ) (new : Rect) (b r : Bool) (e : Entry) → b ≡ true → u ≡ resetEntry t p i q → e ≡ entryAt u (getD u 0 0 - 1) → Leaves (addTo u p e) r v
+    → Leaves (settled p i q new (writtenOf t b)) r v
 unfolding settled
-settled-split t u v p i q b r e h a d f = rw (h, ← a, ← d) f
+settled-split t u v p i q new b r e h a d f = rw (h, ← a, ← d) f
 
-pub settled-kept : (t u : List ℕ) (p i q : ℕ) (b : Bool) → b ≡ false → u ≡ resetEntry t p i q → Leaves (settled p i q (writtenOf t b)) false u
+pub settled-kept : (t u : List ℕ) (p i q : ℕ) (new : Rect) (b : Bool) → b ≡ false → u ≡ widenEntry t p i new → Leaves (settled p i q new (writtenOf t b)) false u
 unfolding settled
-settled-kept t u p i q b h a = rw (h, ← a) (refl, refl)
+settled-kept t u p i q new b h a = rw (h, ← a) (refl, refl)
 
 pub place-out : (l : ℕ) (t : List ℕ) (p : ℕ) (e : Entry) → PAGES ≤ p → Leaves (placeAt l t p e) false t
 unfolding placeAt
@@ -89,13 +94,13 @@ unfolding placeAt
 place-leaf l t v p e b h z f = rw (z, lt-ltb p PAGES h) f
 
 place-above : (l : ℕ) (t w : List ℕ) (p i q : ℕ) (e : Entry) → p < PAGES → (l ≡ 0 → ⊥) → w ≡ pageWords t p → i ≡ chosenIn w (e .rect) → q ≡ entryIn (pageWords t p) i .r
-    → placeAt l t p e ≡ settled p i q (placeAt (l - 1) t q e)
+    → placeAt l t p e ≡ settled p i q (e .rect) (placeAt (l - 1) t q e)
 unfolding placeAt
 place-above zero t w p i q e h f a b d = absurd (f refl)
 place-above (suc l) t w p i q e h f a b d = rw (sub-one, lt-ltb p PAGES h, d, b, a)
 
 pub place-step : (l : ℕ) (t w : List ℕ) (p i q : ℕ) (e : Entry) (b r : Bool) (u v : List ℕ) → p < PAGES → (l ≡ 0 → ⊥) → w ≡ pageWords t p → i ≡ chosenIn w (e .rect) → q ≡ entryIn (pageWords t p) i .r
-    → Leaves (placeAt (l - 1) t q e) b u → Leaves (settled p i q (writtenOf u b)) r v → Leaves (placeAt l t p e) r v
+    → Leaves (placeAt (l - 1) t q e) b u → Leaves (settled p i q (e .rect) (writtenOf u b)) r v → Leaves (placeAt l t p e) r v
 place-step l t w p i q e b r u v h f a c d x y =
     let s : writtenOf u b ≡ placeAt (l - 1) t q e = λ j. record { words = x .1 j; split = x .0 j } in
     rw (place-above l t w p i q e h f a c d, ← s) y

@@ -8,7 +8,7 @@ use Rattle.pages.specs.declared.Rect.{Rect}
 use Rattle.pages.specs.declared.Entry.{Entry}
 use Rattle.pages.specs.Sizes.{PAGE_HEAD, FANOUT, ENTRY_WORDS, PAGE_WORDS, TABLE_HEAD, PAGES}
 use Rattle.pages.specs.Lists.{sum, sumBelow}
-use Rattle.pages.specs.Rectangles.{rectOf, entryOf, bounds}
+use Rattle.pages.specs.Rectangles.{rectOf, entryOf, widen, bounds}
 use Rattle.pages.specs.Layout.{pageOf, encodePage, pageWords}
 use Rattle.pages.specs.Sound.{is}
 use Rattle.pages.specs.Readers.{entryIn, entriesIn}
@@ -73,11 +73,18 @@ entryAt t q = entryOf (boundsAt t q) q
 unfoldable pub resetEntry : List ℕ → ℕ → ℕ → ℕ → List ℕ
 resetEntry t p i q = putPage t p (entrySet (pageWords t p) i (entryAt t q))
 
--- and if the child was split, page p gets an entry for the last page
-unfoldable pub settled : ℕ → ℕ → ℕ → Written → Written
-settled p i q s =
+-- in page p the entry at place i is widened by the new rectangle
+abbrev pub widenedBy : Rect → Entry → Entry
+widenedBy new e = entryOf (widen (e .rect) new) (e .r)
+
+unfoldable pub widenEntry : List ℕ → ℕ → ℕ → Rect → List ℕ
+widenEntry t p i new = putPage t p (entrySet (pageWords t p) i (widenedBy new (entryIn (pageWords t p) i)))
+
+-- if the child was split, its entry is set to its bounds, and page p gets an entry for the last page; otherwise its entry is widened
+unfoldable pub settled : ℕ → ℕ → ℕ → Rect → Written → Written
+settled p i q new s =
     let t : List ℕ = resetEntry (s .words) p i q in
-    cond (s .split) (addTo t p (entryAt t (getD t 0 0 - 1))) (writtenOf t false)
+    cond (s .split) (addTo t p (entryAt t (getD t 0 0 - 1))) (writtenOf (widenEntry (s .words) p i new) false)
 
 -- the place to go to in a page's words
 unfoldable pub chosenIn : List ℕ → Rect → ℕ
@@ -89,7 +96,7 @@ placeAt zero t p e = cond (ltb p PAGES) (addTo t p e) (writtenOf t false)
 placeAt (suc l) t p e =
     let i : ℕ = chosenIn (pageWords t p) (e .rect) in
     let q : ℕ = entryIn (pageWords t p) i .r in
-    cond (ltb p PAGES) (settled p i q (placeAt l t q e)) (writtenOf t false)
+    cond (ltb p PAGES) (settled p i q (e .rect) (placeAt l t q e)) (writtenOf t false)
 
 -- the old root r was split: page k becomes the root, at the level given
 unfoldable pub rootMade : List ℕ → ℕ → ℕ → List ℕ

@@ -33,11 +33,12 @@ ghost use Prim.Native.Nat.{_+_, _-_, _≤_, _<_};
 ghost use lib.ListN.{length, getD};
 ghost use lib.Dec.{T, leb};
 ghost use Rattle.pages.specs.Sizes.{PIECES, FANOUT, PAGES, TABLE_WORDS, TOP_LEVEL};
-ghost use Rattle.pages.specs.Layout.{pageWords};
-ghost use Rattle.pages.specs.Sound.{sound};
+ghost use Rattle.pages.specs.Rectangles.{valid};
+ghost use Rattle.pages.specs.Layout.{pageWords, tableIn};
+ghost use Rattle.pages.specs.Sound.{stored, sound};
 ghost use Rattle.pages.specs.Readers.{entryIn};
-ghost use Rattle.placing.specs.Calls.{placeSound, placeCall};
-ghost use Rattle.placing.specs.Steps.{splitInto, addTo, boundsAt, entryAt, resetEntry, settled, writtenOf, placeAt, rootMade, placeIn};
+ghost use Rattle.placing.specs.Calls.{placedWords, placeSound, placeCall};
+ghost use Rattle.placing.specs.Steps.{splitInto, addTo, boundsAt, entryAt, resetEntry, widenEntry, settled, writtenOf, placeAt, rootMade};
 
 // How many of nine entries stay in a page that is split.
 const STAY: usize = 4;
@@ -127,17 +128,29 @@ fn entry_last(table: &[u32]) -> Entry
     entry_at(table, span(1, table[PAGE_COUNT]))
 }
 
-// What page p does after its child q at place i; split says whether the child was split.
-fn settle(table: &mut [u32], p: u32, i: usize, q: u32, split: bool) -> bool
+// Widens the entry at place i of page p by the new rectangle.
+fn widen_entry(table: &mut [u32], p: u32, i: usize, new: Rect)
     requires { ⌜ (TABLE_WORDS ≤ length (now table)) × (p < PAGES) × (i < FANOUT) ⌝ }
-    ensures { λ r. ⌜ (r ≡ settled p i q (writtenOf (now (table .entry)) split) .split) × (now (table .exit) ≡ settled p i q (writtenOf (now (table .entry)) split) .words) ⌝ }
+    ensures { λ _. ⌜ now (table .exit) ≡ widenEntry (now (table .entry)) p i new ⌝ }
 {
-    reset_entry(table, p, i, q);
-    if split {
-        let e = entry_last(table);
-        return add_entry(table, p, e);
+    let old = pages::entry_of(pages::page_of(table, p as usize), i);
+    let rect = pages::widened(old.rect, new);
+    put_entry(table, p, i, Entry { rect, r: old.r });
+}
+
+// What page p does after its child q at place i took the new rectangle; split says whether the child was split.
+// If not, the entry was exact and is only widened: no bounds are made anew.
+fn settle(table: &mut [u32], p: u32, i: usize, q: u32, new: Rect, split: bool) -> bool
+    requires { ⌜ (TABLE_WORDS ≤ length (now table)) × (p < PAGES) × (i < FANOUT) ⌝ }
+    ensures { λ r. ⌜ (r ≡ settled p i q new (writtenOf (now (table .entry)) split) .split) × (now (table .exit) ≡ settled p i q new (writtenOf (now (table .entry)) split) .words) ⌝ }
+{
+    if !split {
+        widen_entry(table, p, i, new);
+        return false;
     }
-    false
+    reset_entry(table, p, i, q);
+    let e = entry_last(table);
+    add_entry(table, p, e)
 }
 
 fn child(table: &[u32], p: u32, i: usize) -> u32
@@ -161,7 +174,7 @@ fn place_at(table: &mut [u32], level: u32, p: u32, e: Entry) -> bool
     let i = choose(pages::page_of(table, p as usize), e.rect);
     let q = child(table, p, i);
     let split = place_at(table, level - 1, q, e);
-    settle(table, p, i, q, split)
+    settle(table, p, i, q, e.rect, split)
 }
 
 // Page k becomes the root, over the old root and the page that was split off it.
@@ -199,10 +212,10 @@ fn root_level(table: &[u32]) -> u32
     page[LEVEL]
 }
 
-// An accepted call's writing.
-fn place_in(table: &mut [u32], number: u32, rect: Rect)
-    requires { ⌜ (TABLE_WORDS ≤ length (now table)) × (getD (now table) 1 0 < PAGES) × (getD (pageWords (now table) (getD (now table) 1 0)) 0 0 ≤ TOP_LEVEL) × (getD (now table) 2 0 ≤ PIECES) ⌝ }
-    ensures { λ _. ⌜ now (table .exit) ≡ placeIn (now (table .entry)) number rect ⌝ }
+// A place call that nothing refuses.
+pub fn place_new(table: &mut [u32], number: u32, rect: Rect)
+    requires { ⌜ (TABLE_WORDS ≤ length (now table)) × T (sound (now table)) × T (valid rect) × (number < PIECES) × (stored (tableIn (now table)) number ≡ 0) ⌝ }
+    ensures { λ _. ⌜ now (table .exit) ≡ placedWords (now (table .entry)) number rect ⌝ }
 {
     let root = table[ROOT];
     let count = table[PIECE_COUNT];
@@ -227,7 +240,7 @@ pub fn place_sound(table: &mut [u32], number: u32, rect: Rect) -> u32
     if stands(table, number) {
         return ALREADY_STANDING;
     }
-    place_in(table, number, rect);
+    place_new(table, number, rect);
     ACCEPTED
 }
 

@@ -1,9 +1,10 @@
--- Each refusal by its condition; the writing by the law from words to the table.
+-- Each refusal by its condition; what none of them says is what `place_new` asks for.
 use mathlib.Core.Path.{sym, ap, _∙_}
 use borrow.Author.Tests.{not-true, not-false}
 use Rattle.pages.specs.Refusals.{ACCEPTED}
+use Rattle.soundness.proofs.Marks.{true-T}
 use Rattle.placing.proofs.Searching.{some-held, none-held}
-use Rattle.placing.proofs.Joined.{head-in}
+use Rattle.placing.proofs.Joined.{head-in, held-in}
 use Rattle.placing.proofs.Called.{call-not-valid, call-too-large, call-stands, call-done}
 use borrow.Author.Needs.{needs}
 use Rattle.placing.proofs.place_sound.Statement.{statement}
@@ -29,13 +30,17 @@ same-length c = search needs
 returns-3 : tie.Need-returns-3
 returns-3 c =
     let p = c .before .before .before .before .before .before .before .pre in
-    call-stands _ _ _ (p .0) (p .1) (sym (c .before .before .before .before .before .is-valid .ensures) ∙ not-false _ (c .before .before .before .before .if1 .left)) (c .before .before .before .if2 .left) (some-held _ _ (c .before .stands .ensures) (c .if3 .taken))
+    call-stands _ _ _ (sym (c .before .before .before .before .before .is-valid .ensures) ∙ not-false _ (c .before .before .before .before .if1 .left)) (c .before .before .before .if2 .left) (λ z. some-held _ _ (c .before .stands .ensures) (c .if3 .taken) (held-in _ _ (p .0) (p .1) ∙ z))
 
-place-in-requires : tie.Need-place-in-requires
-place-in-requires c κs =
-    let p = c .before .before .before .before .before .before .before .before .pre in
-    let h = head-in _ (p .0) (p .1) in
-    (p .0, h .1, h .2, h .3)
+place-new-requires : tie.Need-place-new-requires
+place-new-requires c κs =
+    let p = c .before .before .before .before .before .before .before .before .pre in (
+      p .0,
+      p .1,
+      true-T _ (sym (c .before .before .before .before .before .before .is-valid .ensures) ∙ not-false _ (c .before .before .before .before .before .if1 .left)),
+      c .before .before .before .before .if2 .left,
+      sym (held-in _ _ (p .0) (p .1)) ∙ none-held _ _ (c .before .before .stands .ensures) (c .before .if3 .left),
+    )
 
 same-length-2 : tie.Need-same-length-2
 same-length-2 c = search needs
@@ -43,8 +48,8 @@ same-length-2 c = search needs
 returns-4 : tie.Need-returns-4
 returns-4 c =
     let p = c .before .before .before .before .before .before .before .before .before .before .before .pre in
-    ap (λ v. (ACCEPTED, v)) (c .before .before .place-in .ensures)
-    ∙ call-done _ _ _ (p .0) (p .1) (sym (c .before .before .before .before .before .before .before .before .before .is-valid .ensures) ∙ not-false _ (c .before .before .before .before .before .before .before .before .if1 .left)) (c .before .before .before .before .before .before .before .if2 .left) (none-held _ _ (c .before .before .before .before .before .stands .ensures) (c .before .before .before .before .if3 .left))
+    ap (λ v. (ACCEPTED, v)) (c .before .before .place-new .ensures)
+    ∙ call-done _ _ _ (sym (c .before .before .before .before .before .before .before .before .before .is-valid .ensures) ∙ not-false _ (c .before .before .before .before .before .before .before .before .if1 .left)) (c .before .before .before .before .before .before .before .if2 .left) (sym (held-in _ _ (p .0) (p .1)) ∙ none-held _ _ (c .before .before .before .before .before .stands .ensures) (c .before .before .before .before .if3 .left))
 
 pub place-sound-spec : {M : Type 1} → statement M
 place-sound-spec =
@@ -56,6 +61,6 @@ place-sound-spec =
     stands-requires
     same-length
     returns-3
-    place-in-requires
+    place-new-requires
     same-length-2
     returns-4)
