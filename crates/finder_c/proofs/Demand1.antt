@@ -19,6 +19,7 @@ use Rattle.pages.specs.Calls.{emptyWords, emptyCall}
 use Rattle.pages.proofs.Lists.{Every}
 use Rattle.soundness.specs.declared.Checked.{Checked}
 use Rattle.soundness.specs.Calls.{checkCall}
+use Rattle.soundness.proofs.Answers.{refused-none}
 use Rattle.placing.specs.Calls.{placeRefusal, placedWords, placeSound, placeCall}
 use Rattle.query.specs.declared.Answer.{Answer}
 use Rattle.query.specs.declared.Opened.{Opened}
@@ -61,12 +62,6 @@ module _ (n : ℕ) where
   check-order true s = refl
   check-order false true = refl
   check-order false false = refl
-
-  check-none : (a s : Bool) → answered a s .refusal ≢ 0 → answered a s .pieces ≡ 0
-  unfolding answered
-  check-none true s m = refl
-  check-none false true m = absurd (m refl)
-  check-none false false m = refl
 
 -- place
 
@@ -184,10 +179,6 @@ module _ (w : List ℕ) where
   unfolding checkCall answered
   check-first = check-order (tableIn w .count) (ltb (length w) TABLE_WORDS) (sound w)
 
-  check-counts : checkCall w .refusal ≢ 0 → checkCall w .pieces ≡ 0
-  unfolding checkCall answered
-  check-counts = check-none (tableIn w .count) (ltb (length w) TABLE_WORDS) (sound w)
-
   module _ (n : ℕ) (r : Rect) where
     place-first : placeCall w n r .0 ≡ firstOf (placeOrder w n r)
     unfolding placeCall placeSound placeRefusal placing
@@ -223,7 +214,7 @@ demand1 = record {
     first-most (admittedOrder clauses) (omega arith, (omega arith, tt)),
   );
   empty-leaves = empty-leaves;
-  check-counts = check-counts;
+  check-counts = refused-none;
   place-leaves = place-leaves;
   query-leaves = λ w q clauses o. query-is w q clauses o (λ x n. x .0 .refusal ≢ 0 → (x .0 .hits ≡ 0) × (x .0 .opened ≡ 0) × (x .1 ≡ o))
       (λ z. absurd (z (query-done w q clauses o))) (λ n z. (refl, refl, refl));

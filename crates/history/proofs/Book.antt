@@ -6,19 +6,36 @@ use mathlib.Core.Path.{_≡_, refl, sym, ap, _∙_}
 use mathlib.Core.Logic.{_≢_}
 use mathlib.Core.Bool.{Bool, true, false, _&&_, cond}
 use mathlib.Core.List.{List, [], _∷_}
-use lib.Dec.{T, ltb, eqb}
+use lib.Dec.{T, eqb}
 use borrow.Author.Tests.{lt-ltb, le-ltb, eq-eqb, ne-eqb}
 use Rattle.pages.specs.declared.Rect.{Rect}
 use Rattle.pages.specs.Sizes.{PIECES}
 use Rattle.pages.specs.Lists.{allOf}
-use Rattle.pages.specs.Rectangles.{valid}
+use Rattle.pages.specs.Rectangles.{rectOf, valid}
 use Rattle.history.specs.Book.{Slot, Call, Book, blank, stands, isBlank, writes, feed, fed, bookAfter, firstValid}
 
--- when a call writes, and where
-pub writes-tests : (b : Book) (c : Call) → writes b c ≡ allOf (ltb (c .number) PIECES ∷ valid (c .rect) ∷ isBlank (b (c .number)) ∷ [])
-unfolding writes
-writes-tests b c = refl
+-- Computed examples, before any law: of four place calls the second for 5, the one for 1,024 and the one with x1 = x2 write nothing.
+four : List Call
+four =
+    record { number = 5; rect = rectOf 0 0 1 1 }
+    ∷ record { number = 5; rect = rectOf 0 0 2 2 }
+    ∷ record { number = 1_024; rect = rectOf 0 0 3 3 }
+    ∷ record { number = 6; rect = rectOf 3 3 3 4 }
+    ∷ []
 
+first-stays : bookAfter four 5 ≡ stands (rectOf 0 0 1 1)
+unfolding four bookAfter
+first-stays = refl
+
+above-1023 : bookAfter four 1_024 ≡ blank
+unfolding four bookAfter
+above-1023 = refl
+
+not-valid : bookAfter four 6 ≡ blank
+unfolding four bookAfter
+not-valid = refl
+
+-- where a call writes
 feed-writes : (b : Book) (c : Call) (n : ℕ) → feed b c n ≡ cond (writes b c && eqb n (c .number)) (stands (c .rect)) (b n)
 unfolding feed
 feed-writes b c n = refl
@@ -34,16 +51,21 @@ feed-elsewhere b c n e = feed-writes b c n ∙ rw (ne-eqb n (c .number) e) (else
 -- one slot after one call
 feed-at : (b : Book) (c : Call) (n : ℕ) → n < PIECES
     → feed b c n ≡ cond (isBlank (b n) && (eqb n (c .number) && valid (c .rect))) (stands (c .rect)) (b n)
+unfolding writes
 feed-at b c n l = go (ℕ-discrete n (c .number))
   where
-    swap : (x y : Bool) → cond (allOf (true ∷ x ∷ y ∷ []) && true) (stands (c .rect)) (b n) ≡ cond (y && x) (stands (c .rect)) (b n)
+    swap : (x y : Bool) → cond (allOf (true ∷ x ∷ y ∷ []) && true) (stands (c .rect)) (b (c .number)) ≡ cond (y && x) (stands (c .rect)) (b (c .number))
     swap true true = refl
     swap true false = refl
     swap false true = refl
     swap false false = refl
 
     go : Dec (n ≡ c .number) → feed b c n ≡ cond (isBlank (b n) && (eqb n (c .number) && valid (c .rect))) (stands (c .rect)) (b n)
-    go (yes e) = feed-writes b c n ∙ rw (writes-tests b c, ← e, eq-eqb n n refl, lt-ltb n PIECES l) (swap (valid (c .rect)) (isBlank (b n)))
+    go (yes e) =
+        feed-writes b c n
+        ∙ rw (eq-eqb n (c .number) e, e)
+        (ap (λ x. cond (allOf (x ∷ valid (c .rect) ∷ isBlank (b (c .number)) ∷ []) && true) (stands (c .rect)) (b (c .number)))
+        (lt-ltb (c .number) PIECES (rw e at l)) ∙ swap (valid (c .rect)) (isBlank (b (c .number))))
     go (no e) = feed-elsewhere b c n e ∙ rw (ne-eqb n (c .number) e) (sym (elsewhere (isBlank (b n)) (stands (c .rect)) (b n)))
 
 -- a filled slot stays as it is, and a blank one takes the first valid rectangle
@@ -69,10 +91,14 @@ book-first calls n l = fed-at calls (λ i. blank) n l
 
 -- a number above 1,023 never stands
 feed-other : (b : Book) (c : Call) (n : ℕ) → PIECES ≤ n → feed b c n ≡ b n
+unfolding writes
 feed-other b c n l = go (ℕ-discrete n (c .number))
   where
     go : Dec (n ≡ c .number) → feed b c n ≡ b n
-    go (yes e) = feed-writes b c n ∙ rw (writes-tests b c, ← e, le-ltb n PIECES l)
+    go (yes e) =
+        feed-writes b c n
+        ∙ ap (λ x. cond (allOf (x ∷ valid (c .rect) ∷ isBlank (b (c .number)) ∷ []) && eqb n (c .number)) (stands (c .rect)) (b n))
+        (le-ltb (c .number) PIECES (rw e at l))
     go (no e) = feed-elsewhere b c n e
 
 fed-other : (cs : List Call) (b : Book) (n : ℕ) → PIECES ≤ n → fed b cs n ≡ b n

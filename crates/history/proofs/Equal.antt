@@ -3,7 +3,7 @@ use Prim.Native.Nat.{ℕ, zero, suc, _+_, _≤_, _<_}
 use native.Mathlib.Omega.{arith}
 use native.Mathlib.Nat.{not-suc-le-zero, le-of-suc-le-suc}
 use mathlib.Core.Path.{_≡_, refl, _∙_}
-use mathlib.Core.Bool.{Bool, true, false, _&&_, _||_}
+use mathlib.Core.Bool.{Bool, true, false, _&&_, and-true, or-false}
 use mathlib.Core.List.{List, [], _∷_}
 use lib.ListN.{length, getD}
 use lib.Dec.{T, leb, ltb, eqb, ltb→lt, eqb→eq}
@@ -25,14 +25,6 @@ equalQuery = 32 ∷ []
 pub equal-asked : refusalOf equalQuery ≡ 0
 unfolding refusalOf someBad badClause
 equal-asked = refl
-
-or-false : (b : Bool) → b || false ≡ b
-or-false true = refl
-or-false false = refl
-
-and-true : (b : Bool) → b && true ≡ b
-and-true true = refl
-and-true false = refl
 
 one-bit : (f : ℕ → Bool) → someBelow (λ t. bit 32 t && f t) RELATIONS ≡ f 5
 unfolding someBelow bit

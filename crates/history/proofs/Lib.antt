@@ -1,5 +1,4 @@
 pub mod Book
-pub mod Kept
 pub mod Reached
 pub mod Marking
 pub mod Rising

@@ -2,35 +2,35 @@
 use Prim.Native.Nat.{ℕ, _≤_, _<_}
 use native.Mathlib.Omega.{arith}
 use native.Mathlib.Decide.{decLt}
+use native.Mathlib.Nat.{le-trans}
 use mathlib.Core.Path.{_≡_, refl, sym, ap, _∙_, subst}
-use mathlib.Core.Bool.{Bool, true, false, not, cond}
+use mathlib.Core.Bool.{Bool, true, false, cond}
 use mathlib.Core.Logic.{_↔_}
 use mathlib.Core.List.{List, _++_, List·Memᴰ}
 use lib.ListN.{length, getD, take, drop}
 use lib.Seq.{take-append-seam}
 use lib.Dec.{T, ltb, eqb}
-use borrow.Author.Tests.{le-ltb}
-use Rattle.relations.specs.Query.{refusalOf}
 use Rattle.pages.specs.declared.Rect.{Rect}
 use Rattle.pages.specs.declared.Entry.{Entry}
-use Rattle.pages.specs.Sizes.{PIECES, TABLE_WORDS}
+use Rattle.pages.specs.Sizes.{PIECES}
 use Rattle.pages.specs.Lists.{one, sumBelow}
-use Rattle.pages.specs.Rectangles.{valid}
 use Rattle.pages.specs.Layout.{Table, tableIn}
 use Rattle.pages.specs.Sound.{is, sound}
-use Rattle.pages.specs.Refusals.{ACCEPTED, TABLE_TOO_SHORT, RECTANGLE_NOT_VALID, TABLE_NOT_SOUND, ANSWER_TOO_SHORT}
-use Rattle.pages.proofs.Below.{below-same, below-le, below-const, below-one}
-use Rattle.pages.proofs.Facts.{Facts}
-use Rattle.pages.proofs.Entries.{leaves, pieces-leaves}
+use Rattle.pages.proofs.Counting.{count-few}
+use Rattle.pages.proofs.Entries.{leaves}
 use Rattle.pages.proofs.Whole.{sound-in}
 use Rattle.query.specs.declared.Answer.{Answer}
 use Rattle.query.specs.Admission.{admitsRect}
 use Rattle.query.specs.Listing.{rising, admittedAs, listing}
-use Rattle.query.specs.Calls.{soundRefusal, noAnswer, queryListing, queryAnswer, querySound, queryCall}
+use Rattle.query.specs.Calls.{queryListing, queryCall}
+use Rattle.query.proofs.Marks.{rising-same}
+use Rattle.query.proofs.Calls.{accepts}
+use Rattle.query.proofs.Members.{rising-order}
+use Rattle.query.proofs.Accepted.{Good, answer-is}
 use Rattle.history.specs.Book.{Slot, Book, blank, stands}
 use Rattle.history.specs.Demand3.{Asked, Lists}
-use Rattle.history.proofs.Rising.{rising-same, in-rising, rising-in, rising-order}
-use Rattle.history.proofs.Reached.{T-true, weigh, Reached}
+use Rattle.history.proofs.Rising.{in-rising, rising-in}
+use Rattle.history.proofs.Reached.{weigh, Reached, weigh-at, cond-none}
 
 -- whether a query admits the standing rectangle; a blank slot has none
 unfoldable pub admitsSlot : List ℕ → Rect → Slot → Bool
@@ -68,7 +68,7 @@ module _ (b : Book) (clauses : List ℕ) (q : Rect) where
 
   standing-rising : (i j : ℕ) → i < j → j < length (admittedStanding b clauses q) → getD (admittedStanding b clauses q) i 0 < getD (admittedStanding b clauses q) j 0
   unfolding admittedStanding
-  standing-rising i j a l = rising-order PIECES (λ n. admitsSlot clauses q (b n)) i j a l
+  standing-rising i j a l = rising-order (λ n. admitsSlot clauses q (b n)) PIECES i j a l
 
 -- equal books give equal listings
 pub standing-same : (b c : Book) (clauses : List ℕ) (q : Rect) → ((n : ℕ) → n < PIECES → b n ≡ c n) → admittedStanding b clauses q ≡ admittedStanding c clauses q
@@ -76,27 +76,11 @@ unfolding admittedStanding
 standing-same b c clauses q h =
     rising-same PIECES (λ n. admitsSlot clauses q (b n)) (λ n. admitsSlot clauses q (c n)) (λ n l. ap (admitsSlot clauses q) (h n l))
 
--- at most one piece stands at each number
-count-most : (m : ℕ) (b : Book) → sumBelow m (λ n. weigh (λ x. 1) n (b n)) ≤ m
-unfolding weigh
-count-most m b = omega (arith, below-le m (λ n. weigh (λ x. 1) n (b n)) (λ n. 1) (λ n l. go n (b n)), below-const m 1)
-  where
-    go : (n : ℕ) (s : Slot) → weigh (λ x. 1) n s ≤ 1
-    go n blank = omega arith
-    go n (stands r) = omega arith
-
-count-of : (m : ℕ) (t : Table) (b : Book) → Facts t → ((f : Entry → ℕ) → leaves f (t .pages) ≡ sumBelow m (λ n. weigh f n (b n))) → t .count ≤ m
-count-of m t b F h = omega (arith, F .counted, pieces-leaves (t .pages), h (λ x. 1), count-most m b)
-
 -- how often a number is stored with an admitted rectangle: once or never, as the slot says
 module _ (clauses : List ℕ) (q : Rect) where
   weigh-admitted : (c n : ℕ) (s : Slot) → weigh (λ e. cond (admitsRect clauses q (e .rect)) (is c e) 0) n s ≡ cond (eqb n c) (one (admitsSlot clauses q s)) 0
   unfolding weigh admitsSlot
-  weigh-admitted c n blank = go (eqb n c)
-    where
-      go : (b : Bool) → _≡_ {A = ℕ} 0 (cond b 0 0)
-      go true = refl
-      go false = refl
+  weigh-admitted c n blank = sym (cond-none (eqb n c))
   weigh-admitted c n (stands r) = go (admitsRect clauses q r) (eqb n c)
     where
       go : (x y : Bool) → _≡_ {A = ℕ} (cond x (one y) 0) (cond y (one x) 0)
@@ -107,8 +91,7 @@ module _ (clauses : List ℕ) (q : Rect) where
 
   admitted-is : (m : ℕ) (t : Table) (b : Book) → ((f : Entry → ℕ) → leaves f (t .pages) ≡ sumBelow m (λ n. weigh f n (b n)))
       → (c : ℕ) → c < m → ltb 0 (admittedAs (admitsRect clauses q) t c) ≡ admitsSlot clauses q (b c)
-  admitted-is m t b h c l = rw (h f ∙ (below-same m (λ n. weigh f n (b n)) (λ n. cond (eqb n c) (one (admitsSlot clauses q (b n))) 0) (λ n nl. weigh-admitted c n (b n))
-      ∙ below-one m c (λ n. one (admitsSlot clauses q (b n))) l)) (go (admitsSlot clauses q (b c)))
+  admitted-is m t b h c l = rw (h f ∙ weigh-at m b f (λ s. one (admitsSlot clauses q s)) c (λ n. weigh-admitted c n (b n)) l) (go (admitsSlot clauses q (b c)))
     where
       f : Entry → ℕ
       f = λ e. cond (admitsRect clauses q (e .rect)) (is c e) 0
@@ -123,50 +106,22 @@ module _ (clauses : List ℕ) (q : Rect) where
       (λ c l. admitted-is PIECES (tableIn w) b (R .holds) c l)
 
 module _ (w : List ℕ) (b : Book) (R : Reached w b) (clauses : List ℕ) (q : Rect) (A : Asked clauses q) (answer : List ℕ) (l : PIECES ≤ length answer) where
-  count-small : tableIn w .count ≤ PIECES
-  count-small = count-of PIECES (tableIn w) b (sound-in w (R .sound)) (R .holds)
-
-  abbrev refusal : ℕ
-  refusal = soundRefusal q clauses (length answer) (tableIn w .count)
-
-  refusal-tests : refusal ≡ cond (not (valid q)) RECTANGLE_NOT_VALID
-      (cond (eqb (refusalOf clauses) ACCEPTED) (cond (ltb (length answer) (tableIn w .count)) ANSWER_TOO_SHORT ACCEPTED) (refusalOf clauses))
-  unfolding soundRefusal
-  refusal-tests = refl
-
-  not-refused : refusal ≡ ACCEPTED
-  not-refused = refusal-tests ∙ rw (T-true (valid q) (A .rectangle), A .query, le-ltb (length answer) (tableIn w .count) (omega (arith, count-small)))
-
-  sound-tests : querySound w q clauses answer ≡ cond (eqb refusal ACCEPTED) (queryAnswer w q clauses answer) (noAnswer refusal, answer)
-  unfolding querySound
-  sound-tests = refl
-
-  call-tests : queryCall w q clauses answer
-      ≡ cond (ltb (length w) TABLE_WORDS) (noAnswer TABLE_TOO_SHORT, answer) (cond (sound w) (querySound w q clauses answer) (noAnswer TABLE_NOT_SOUND, answer))
-  unfolding queryCall
-  call-tests = refl
-
-  pub query-accepted : queryCall w q clauses answer ≡ queryAnswer w q clauses answer
-  query-accepted = call-tests ∙ rw (le-ltb (length w) TABLE_WORDS (R .long), T-true (sound w) (R .sound)) (sound-tests ∙ rw not-refused)
+  good : Good w q clauses (length answer)
+  good = record {
+    words = R .long;
+    holds = R .sound;
+    refusal = accepts q clauses (length answer) (tableIn w .count) (record { rectangle = A .rectangle; query = A .query; room = le-trans (count-few (tableIn w) (sound-in w (R .sound))) l });
+  }
 
   -- the parts of the answer
   abbrev out : Answer × List ℕ
   out = queryCall w q clauses answer
 
-  answer-parts : (queryAnswer w q clauses answer .0 .refusal ≡ ACCEPTED)
-      × (queryAnswer w q clauses answer .0 .hits ≡ length (queryListing w q clauses))
-      × (queryAnswer w q clauses answer .1 ≡ queryListing w q clauses ++ drop (length (queryListing w q clauses)) answer)
-  unfolding queryAnswer
-  answer-parts = (refl, refl, refl)
-
-  out-accepted : out .0 .refusal ≡ ACCEPTED
-  out-accepted = ap (λ x. x .0 .refusal) query-accepted ∙ answer-parts .0
-
   pub out-hits : out .0 .hits ≡ length (admittedStanding b clauses q)
-  out-hits = ap (λ x. x .0 .hits) query-accepted ∙ (answer-parts .1 ∙ ap length (listing-is clauses q w b R))
+  out-hits = ap (λ x. x .0 .hits) (answer-is w q clauses answer good) ∙ ap length (listing-is clauses q w b R)
 
-  pub out-words : out .1 ≡ admittedStanding b clauses q ++ drop (length (admittedStanding b clauses q)) answer
-  out-words = ap (λ x. x .1) query-accepted ∙ (answer-parts .2 ∙ ap (λ xs. xs ++ drop (length xs) answer) (listing-is clauses q w b R))
+  out-words : out .1 ≡ admittedStanding b clauses q ++ drop (length (admittedStanding b clauses q)) answer
+  out-words = ap (λ x. x .1) (answer-is w q clauses answer good) ∙ ap (λ xs. xs ++ drop (length xs) answer) (listing-is clauses q w b R)
 
   -- the words that are compared
   pub out-listing : take (out .0 .hits) (out .1) ≡ admittedStanding b clauses q
@@ -174,7 +129,7 @@ module _ (w : List ℕ) (b : Book) (R : Reached w b) (clauses : List ℕ) (q : R
 
   pub query-lists : ((n : ℕ) → PIECES ≤ n → b n ≡ blank) → Lists b clauses q answer out
   query-lists others = record {
-    accepted = out-accepted;
+    accepted = ap (λ x. x .0 .refusal) (answer-is w q clauses answer good);
     numbers = admittedStanding b clauses q;
     exactly = standing-in b clauses q others;
     rising = standing-rising b clauses q;

@@ -19,9 +19,9 @@ use Rattle.pages.proofs.Whole.{sound-in}
 use Rattle.placing.specs.Place.{place}
 use Rattle.placing.specs.Calls.{placedWords}
 use Rattle.placing.proofs.Placed.{place-sound, place-holds}
+use Rattle.placing.proofs.Joined.{words-open}
 use Rattle.history.specs.Book.{blank}
 use Rattle.history.specs.Replay.{Marked}
-use Rattle.history.proofs.Kept.{placed-words}
 use Rattle.history.proofs.Reached.{Reached, read-back, stored-none}
 
 pub marked-none : (w : List ℕ) → Reached w (λ n. blank) → Marked w (replicate PIECES 0)
@@ -33,7 +33,7 @@ module _ (w : List ℕ) (n : ℕ) (r : Rect) (h : T (sound w)) (v : T (valid r))
   stored-placed c =
       let t : Table = tableIn w in
       let F : Facts t = sound-in w h in
-      ap (λ x. stored x c) (ap tableIn (placed-words w n r) ∙ read-back (place t n r) (drop TABLE_WORDS w) (place-sound t n r F v l free))
+      ap (λ x. stored x c) (ap tableIn (words-open w n r) ∙ read-back (place t n r) (drop TABLE_WORDS w) (place-sound t n r F v l free))
       ∙ place-holds t n r F v l free (is c)
 
   pub marked-placed : (u marks : List ℕ) → u ≡ placedWords w n r → n < length marks → Marked w marks → Marked u (set marks n 1)

@@ -1,40 +1,39 @@
 -- The words that place calls reach are a sound table, whose leaves hold exactly what stands.
-use Prim.Native.Nat.{ℕ, suc, _+_, _*_, _≤_, _<_}
+use Prim.Native.Nat.{ℕ, _+_, _≤_, _<_}
 use native.Mathlib.Omega.{arith}
 use native.Mathlib.Decide.{ℕ-discrete}
 use mathlib.Core.Path.{_≡_, refl, sym, ap, _∙_, subst}
 use mathlib.Core.Bool.{Bool, true, false, not, _&&_, cond}
 use mathlib.Core.List.{List, [], _∷_, _++_}
-use lib.ListN.{length, drop, replicate, length-append}
+use lib.ListN.{length, drop, length-append}
 use lib.Seq.{take-at}
 use lib.Dec.{T, leb, ltb, eqb}
 use borrow.Author.Tests.{leb-true, leb-false, eqb-true, le-ltb, lt-ltb, eq-eqb, ne-eqb}
 use Rattle.pages.specs.declared.Rect.{Rect}
 use Rattle.pages.specs.declared.Entry.{Entry}
-use Rattle.pages.specs.Sizes.{PIECES, PAGE_WORDS, TABLE_WORDS}
+use Rattle.pages.specs.Sizes.{PIECES, TABLE_WORDS}
 use Rattle.pages.specs.Lists.{one, allOf, sumBelow}
 use Rattle.pages.specs.Rectangles.{entryOf, valid}
-use Rattle.pages.specs.Layout.{Table, tableOf, noPage, pack, encodePage, encode, decodePage, decode, tableIn}
-use Rattle.pages.specs.Sound.{is, stored, soundTable, sound}
-use Rattle.pages.specs.Refusals.{ACCEPTED, TABLE_TOO_SHORT, RECTANGLE_NOT_VALID, NUMBER_TOO_LARGE, TABLE_NOT_SOUND, ALREADY_STANDING}
-use Rattle.pages.specs.Calls.{emptyWords, emptyCall}
-use Rattle.pages.proofs.Lists.{holds}
+use Rattle.pages.specs.Layout.{Table, encode, decode, tableIn}
+use Rattle.pages.specs.Sound.{is, stored, sound}
+use Rattle.pages.specs.Refusals.{ACCEPTED, RECTANGLE_NOT_VALID, NUMBER_TOO_LARGE, ALREADY_STANDING}
+use Rattle.pages.specs.Calls.{emptyCall}
+use Rattle.pages.proofs.Lists.{T-true, holds}
 use Rattle.pages.proofs.Below.{below-same, below-add, below-one, below-const}
-use Rattle.pages.proofs.Facts.{Facts, facts}
-use Rattle.pages.proofs.Round.{pack-blank, size-page, blank-page, length-encode}
+use Rattle.pages.proofs.Facts.{Facts}
+use Rattle.pages.proofs.Round.{length-encode}
 use Rattle.pages.proofs.Entries.{leaves}
 use Rattle.pages.proofs.Whole.{decode-encode, sound-encode, sound-in}
+use Rattle.pages.proofs.Zeros.{empty-accepted}
+use Rattle.pages.proofs.EmptyTable.{emptyTable, empty-facts, empty-words}
 use Rattle.placing.specs.Place.{place}
 use Rattle.placing.specs.Calls.{placeRefusal, placedWords, placeSound, placeCall}
 use Rattle.placing.proofs.Placed.{place-sound, place-holds}
+use Rattle.placing.proofs.Joined.{words-open}
+use Rattle.placing.proofs.Called.{refusal-open, answered, sound-open, call-accepted}
+use Rattle.placing.proofs.Tested.{call-tested}
 use Rattle.history.specs.Book.{Slot, Call, Book, blank, stands, isBlank, writes, feed, fed, bookAfter}
 use Rattle.history.specs.History.{placed, tableAfter}
-use Rattle.history.proofs.Book.{writes-tests}
-use Rattle.history.proofs.Kept.{refusal-tests, placed-words, outcome, sound-outcome, accepted-parts}
-
-pub T-true : (b : Bool) → T b → b ≡ true
-T-true true h = refl
-T-true false h = absurd h
 
 -- the weight of what stands at n
 unfoldable pub weigh : (Entry → ℕ) → ℕ → Slot → ℕ
@@ -63,31 +62,22 @@ reached-encode t rest b F H = record {
 }
 
 -- the empty table
-bare : Table
-bare = tableOf 0 0 (noPage ∷ [])
-
-bare-facts : Facts bare
-unfolding bare soundTable
-bare-facts = facts bare tt
-
-bare-holds : Holds bare (λ n. blank)
-unfolding bare weigh
-bare-holds f = sym (below-const PIECES 0)
-
-blank-words : (n m : ℕ) → m ≡ suc (suc (PAGE_WORDS * suc n)) → replicate m 0 ≡ 0 ∷ 0 ∷ pack encodePage noPage (suc n) (noPage ∷ [])
-blank-words n m e = rw e (ap (λ w. 0 ∷ 0 ∷ w) (sym (pack-blank encodePage noPage PAGE_WORDS size-page decodePage blank-page (suc n))))
-
-bare-words : emptyWords ≡ encode bare
-unfolding emptyWords encode bare
-bare-words = ap (λ w. 1 ∷ w) (blank-words 340 14_324 refl)
-
-empty-words : (slice : List ℕ) → TABLE_WORDS ≤ length slice → emptyCall slice .1 ≡ emptyWords ++ drop TABLE_WORDS slice
-unfolding emptyCall
-empty-words slice l = rw (le-ltb (length slice) TABLE_WORDS l)
+empty-holds : Holds emptyTable (λ n. blank)
+unfolding emptyTable weigh
+empty-holds f = sym (below-const PIECES 0)
 
 reached-empty : (slice : List ℕ) → TABLE_WORDS ≤ length slice → Reached (emptyCall slice .1) (λ n. blank)
-reached-empty slice l = subst (λ w. Reached w (λ n. blank)) (sym (empty-words slice l ∙ ap (λ w. w ++ drop TABLE_WORDS slice) bare-words))
-    (reached-encode bare (drop TABLE_WORDS slice) (λ n. blank) bare-facts bare-holds)
+reached-empty slice l = subst (λ w. Reached w (λ n. blank)) (ap (λ w. w ++ drop TABLE_WORDS slice) empty-words ∙ sym (ap (λ x. x .1) (empty-accepted slice l)))
+    (reached-encode emptyTable (drop TABLE_WORDS slice) (λ n. blank) empty-facts empty-holds)
+
+-- a weight of the entries with the r c is that of its slot
+pub weigh-at : (m : ℕ) (b : Book) (f : Entry → ℕ) (g : Slot → ℕ) (c : ℕ) → ((n : ℕ) → weigh f n (b n) ≡ cond (eqb n c) (g (b n)) 0) → c < m
+    → sumBelow m (λ n. weigh f n (b n)) ≡ g (b c)
+weigh-at m b f g c h l = below-same m (λ n. weigh f n (b n)) (λ n. cond (eqb n c) (g (b n)) 0) (λ n nl. h n) ∙ below-one m c (λ n. g (b n)) l
+
+pub cond-none : (b : Bool) → _≡_ {A = ℕ} (cond b 0 0) 0
+cond-none true = refl
+cond-none false = refl
 
 pub reached-emptied : (slice first : List ℕ) (r : ℕ) → TABLE_WORDS ≤ length slice → (r, first) ≡ emptyCall slice → Reached first (λ n. blank)
 reached-emptied slice first r l e = subst (λ x. Reached (x .1) (λ n. blank)) (sym e) (reached-empty slice l)
@@ -99,15 +89,11 @@ filled s = one (not (isBlank s))
 
 weigh-is : (c n : ℕ) (s : Slot) → weigh (is c) n s ≡ cond (eqb n c) (filled s) 0
 unfolding weigh filled
-weigh-is c n blank = go (eqb n c)
-  where
-    go : (b : Bool) → _≡_ {A = ℕ} 0 (cond b 0 0)
-    go true = refl
-    go false = refl
+weigh-is c n blank = sym (cond-none (eqb n c))
 weigh-is c n (stands r) = refl
 
 stored-is : (m : ℕ) (t : Table) (b : Book) → ((f : Entry → ℕ) → leaves f (t .pages) ≡ sumBelow m (λ n. weigh f n (b n))) → (c : ℕ) → c < m → stored t c ≡ filled (b c)
-stored-is m t b h c l = h (is c) ∙ (below-same m (λ n. weigh (is c) n (b n)) (λ n. cond (eqb n c) (filled (b n)) 0) (λ n nl. weigh-is c n (b n)) ∙ below-one m c (λ n. filled (b n)) l)
+stored-is m t b h c l = h (is c) ∙ weigh-at m b (is c) filled c (λ n. weigh-is c n (b n)) l
 
 -- where nothing stands, nothing is stored
 pub stored-none : (w : List ℕ) → Reached w (λ n. blank) → (c : ℕ) → c < PIECES → stored (tableIn w) c ≡ 0
@@ -146,8 +132,8 @@ module _ (w : List ℕ) (b : Book) (R : Reached w b) (c : Call) where
   stored-blank l = blank-is (b (c .number)) (stored (tableIn w) (c .number)) (stored-is PIECES (tableIn w) b (R .holds) (c .number) l)
 
   refusal-is : eqb (placeRefusal w (c .number) (c .rect)) ACCEPTED ≡ writes b c
-  refusal-is =
-      ap (λ x. eqb x ACCEPTED) (refusal-tests w (c .number) (c .rect)) ∙ (go (valid (c .rect)) (leb PIECES (c .number)) refl ∙ sym (writes-tests b c))
+  unfolding writes
+  refusal-is = ap (λ x. eqb x ACCEPTED) (refusal-open w (c .number) (c .rect)) ∙ go (valid (c .rect)) (leb PIECES (c .number)) refl
     where
       choice : (x : Bool) → eqb (cond x ACCEPTED ALREADY_STANDING) ACCEPTED ≡ allOf (true ∷ true ∷ x ∷ [])
       choice true = refl
@@ -166,24 +152,20 @@ module _ (w : List ℕ) (b : Book) (R : Reached w b) (c : Call) where
           let l : c .number < PIECES = leb-false PIECES (c .number) e in
           rw (lt-ltb (c .number) PIECES l, stored-blank l) (choice (isBlank (b (c .number))))
 
-  call-tests : placeCall w (c .number) (c .rect)
-      ≡ cond (ltb (length w) TABLE_WORDS) (TABLE_TOO_SHORT, w) (cond (sound w) (placeSound w (c .number) (c .rect)) (TABLE_NOT_SOUND, w))
-  unfolding placeCall
-  call-tests = refl
-
   -- the table is sound, so no test of it refuses
   pub call-sound : placeCall w (c .number) (c .rect) ≡ placeSound w (c .number) (c .rect)
-  call-sound = call-tests ∙ rw (le-ltb (length w) TABLE_WORDS (R .long), T-true (sound w) (R .sound))
+  call-sound = call-tested w (c .number) (c .rect) (R .long) (R .sound)
 
   writes-blank : T (writes b c) → T (isBlank (b (c .number)))
-  writes-blank h = holds (ltb (c .number) PIECES ∷ valid (c .rect) ∷ isBlank (b (c .number)) ∷ []) (rw (writes-tests b c) at h) .1 .1 .0
+  unfolding writes
+  writes-blank h = holds (ltb (c .number) PIECES ∷ valid (c .rect) ∷ isBlank (b (c .number)) ∷ []) h .1 .1 .0
 
   reached-placed : T (writes b c) → Reached (placedWords w (c .number) (c .rect)) (λ n. cond (eqb n (c .number)) (stands (c .rect)) (b n))
   reached-placed h =
       let t = tableIn w in
       let F : Facts t = sound-in w (R .sound) in
-      let (v, l, free) = accepted-parts w (c .number) (c .rect) (eqb-true (placeRefusal w (c .number) (c .rect)) ACCEPTED (refusal-is ∙ T-true (writes b c) h)) in
-      subst (λ x. Reached x (λ n. cond (eqb n (c .number)) (stands (c .rect)) (b n))) (sym (placed-words w (c .number) (c .rect)))
+      let (v, l, free) = call-accepted w (c .number) (c .rect) (eqb-true (placeRefusal w (c .number) (c .rect)) ACCEPTED (refusal-is ∙ T-true (writes b c) h)) in
+      subst (λ x. Reached x (λ n. cond (eqb n (c .number)) (stands (c .rect)) (b n))) (sym (words-open w (c .number) (c .rect)))
       (reached-encode (place t (c .number) (c .rect)) (drop TABLE_WORDS w) (λ n. cond (eqb n (c .number)) (stands (c .rect)) (b n))
       (place-sound t (c .number) (c .rect) F v l free)
       (λ f. place-holds t (c .number) (c .rect) F v l free f ∙ (ap (λ m. f (entryOf (c .rect) (c .number)) + m) (R .holds f)
@@ -193,9 +175,9 @@ module _ (w : List ℕ) (b : Book) (R : Reached w b) (c : Call) where
   unfolding feed
   reached-call =
       subst (λ x. Reached (x .1) (λ n. cond (writes b c && eqb n (c .number)) (stands (c .rect)) (b n)))
-      (sym (call-sound ∙ (sound-outcome w (c .number) (c .rect) ∙ ap (outcome w (c .number) (c .rect)) refusal-is))) (go (writes b c) refl)
+      (sym (call-sound ∙ (sound-open w (c .number) (c .rect) ∙ ap (answered w (c .number) (c .rect) (placeRefusal w (c .number) (c .rect))) refusal-is))) (go (writes b c) refl)
     where
-      go : (x : Bool) → writes b c ≡ x → Reached (outcome w (c .number) (c .rect) x .1) (λ n. cond (x && eqb n (c .number)) (stands (c .rect)) (b n))
+      go : (x : Bool) → writes b c ≡ x → Reached (answered w (c .number) (c .rect) (placeRefusal w (c .number) (c .rect)) x .1) (λ n. cond (x && eqb n (c .number)) (stands (c .rect)) (b n))
       go true e = reached-placed (rw e tt)
       go false e = R
 

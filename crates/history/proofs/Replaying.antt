@@ -7,7 +7,7 @@ use mathlib.Core.Bool.{cond}
 use mathlib.Core.List.{List, [], _∷_, _++_, append-assoc}
 use lib.ListN.{length, getD, take, drop, set}
 use lib.Dec.{ltb}
-use lib.Seq.{take-length, length-take-le, take-suc, drop-cons, getD-take, getD-drop, set-at}
+use lib.Seq.{take-length, length-take-le, take-suc, drop-cons, set-at}
 use borrow.Author.Tests.{lt-ltb, le-ltb}
 use Rattle.pages.specs.declared.Rect.{Rect}
 use Rattle.pages.specs.Sizes.{TABLE_WORDS}
@@ -15,6 +15,7 @@ use Rattle.pages.specs.Refusals.{ACCEPTED, TABLE_TOO_SHORT, ANSWER_TOO_SHORT}
 use Rattle.pages.specs.Rectangles.{rectOf}
 use Rattle.pages.specs.Calls.{emptyCall}
 use Rattle.pages.proofs.Round.{length-unpack, getD-unpack}
+use Rattle.pages.proofs.Cells.{cell-word}
 use Rattle.placing.specs.Calls.{placeSound, placeCall}
 use Rattle.history.specs.Book.{Call, blank, fed}
 use Rattle.history.specs.History.{placed, tableAfter}
@@ -22,7 +23,7 @@ use Rattle.history.specs.Replay.{CALL_WORDS, callIn, callsOf, refusalsFr
 use Rattle.history.proofs.Reached.{Reached, call-sound, reached-calls}
 
 -- one call more
-placed-more : (cs : List Call) (w : List ℕ) (c : Call) → placed w (cs ++ (c ∷ [])) ≡ placeCall (placed w cs) (c .number) (c .rect) .1
+pub placed-more : (cs : List Call) (w : List ℕ) (c : Call) → placed w (cs ++ (c ∷ [])) ≡ placeCall (placed w cs) (c .number) (c .rect) .1
 unfolding placed
 placed-more [] w c = refl
 placed-more (d ∷ cs) w c = placed-more cs (placeCall w (d .number) (d .rect) .1) c
@@ -50,18 +51,15 @@ callAt words at = record {
   rect = rectOf (getD words (at + 1) 0) (getD words (at + 2) 0) (getD words (at + 3) 0) (getD words (at + 4) 0);
 }
 
-part-at : (words : List ℕ) (at i : ℕ) → i < CALL_WORDS → getD (take CALL_WORDS (drop at words)) i 0 ≡ getD words (at + i) 0
-part-at words at i l = rw (getD-take CALL_WORDS (drop at words) i 0 l, getD-drop)
-
 call-at : (words : List ℕ) (at : ℕ) → callIn (take CALL_WORDS (drop at words)) ≡ callAt words at
 unfolding callIn
 call-at words at =
     let z : at + 0 ≡ at = omega arith in
-    let n : getD (take CALL_WORDS (drop at words)) 0 0 ≡ getD words at 0 = part-at words at 0 (omega arith) ∙ ap (λ k. getD words k 0) z in
-    let a = part-at words at 1 (omega arith) in
-    let b = part-at words at 2 (omega arith) in
-    let c = part-at words at 3 (omega arith) in
-    let d = part-at words at 4 (omega arith) in
+    let n : getD (take CALL_WORDS (drop at words)) 0 0 ≡ getD words at 0 = cell-word words at CALL_WORDS 0 (omega arith) ∙ ap (λ k. getD words k 0) z in
+    let a = cell-word words at CALL_WORDS 1 (omega arith) in
+    let b = cell-word words at CALL_WORDS 2 (omega arith) in
+    let c = cell-word words at CALL_WORDS 3 (omega arith) in
+    let d = cell-word words at CALL_WORDS 4 (omega arith) in
     λ i. record { number = n i; rect = record { x1 = a i; y1 = b i; x2 = c i; y2 = d i } }
 
 call-in : (words : List ℕ) (i : ℕ) → i < length words / CALL_WORDS → getD (callsOf words) i (callAt words 0) ≡ callAt words (CALL_WORDS * i)

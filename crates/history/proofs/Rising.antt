@@ -1,20 +1,14 @@
--- The numbers below n that pass a test, in rising order.
+-- The numbers below n that pass a test, as members of their list.
 use Prim.Native.Nat.{ℕ, zero, suc, _<_}
 use native.Mathlib.Omega.{arith}
 use native.Mathlib.Nat.{not-suc-le-zero}
-use native.Mathlib.Decide.{ℕ-discrete, decLt}
+use native.Mathlib.Decide.{ℕ-discrete}
 use mathlib.Core.Path.{_≡_, refl}
 use mathlib.Core.Logic.{_⊎_, inl, inr}
 use mathlib.Core.Bool.{Bool, true, false, cond}
-use mathlib.Core.List.{List, [], _∷_, _++_, append-nil, List·Memᴰ, List·Memᴰ·head, List·Memᴰ·not-nil, List·Memᴰ·append-cases, List·Memᴰ·eq-of-singleton, Memᴰ·append-left, Memᴰ·append-right}
-use lib.ListN.{length, getD, length-append, List·getD-append}
-use lib.Seq.{getD-at}
+use mathlib.Core.List.{[], _∷_, _++_, List·Memᴰ, List·Memᴰ·head, List·Memᴰ·not-nil, List·Memᴰ·append-cases, List·Memᴰ·eq-of-singleton, Memᴰ·append-left, Memᴰ·append-right}
 use lib.Dec.{T}
 use Rattle.query.specs.Listing.{rising}
-
-pub rising-same : (n : ℕ) (p q : ℕ → Bool) → ((i : ℕ) → i < n → p i ≡ q i) → rising n p ≡ rising n q
-rising-same zero p q h = refl
-rising-same (suc n) p q h = rw (h n (omega arith), rising-same n p q (λ i l. h i (omega arith)))
 
 -- a number is listed exactly when it passes
 pub in-rising : (n : ℕ) (p : ℕ → Bool) (i : ℕ) → i < n → T (p i) → List·Memᴰ i (rising n p)
@@ -44,42 +38,3 @@ rising-in (suc n) p i m = go (List·Memᴰ·append-cases (rising n p) m) (rising
         let (l, t) = r k in
         (omega arith, t)
     go (inr k) r = last (p n) refl k
-
--- the listed numbers are below n
-rising-below : (n : ℕ) (p : ℕ → Bool) (i : ℕ) → i < length (rising n p) → getD (rising n p) i 0 < n
-rising-below zero p i l = absurd (not-suc-le-zero l)
-rising-below (suc n) p i l = go (p n) l (rising-below n p i)
-  where
-    xs : List ℕ
-    xs = rising n p
-
-    go : (b : Bool) → i < length (xs ++ cond b (n ∷ []) []) → (i < length xs → getD xs i 0 < n) → getD (xs ++ cond b (n ∷ []) []) i 0 < suc n
-    go false k r =
-        let k′ : i < length xs = rw append-nil at k in
-        rw append-nil (omega (arith, r k′))
-    go true k r = last (decLt i (length xs))
-      where
-        last : Dec (i < length xs) → getD (xs ++ (n ∷ [])) i 0 < suc n
-        last (yes q) = rw (List·getD-append xs (n ∷ []) 0 i q) (omega (arith, r q))
-        last (no q) = rw (getD-at xs n [] 0 i (omega (arith, length-append xs (n ∷ [])))) (omega arith)
-
--- and rise
-pub rising-order : (n : ℕ) (p : ℕ → Bool) (i j : ℕ) → i < j → j < length (rising n p) → getD (rising n p) i 0 < getD (rising n p) j 0
-rising-order zero p i j a l = absurd (not-suc-le-zero l)
-rising-order (suc n) p i j a l = go (p n) l (rising-order n p i j a) (rising-below n p i)
-  where
-    xs : List ℕ
-    xs = rising n p
-
-    go : (b : Bool) → j < length (xs ++ cond b (n ∷ []) []) → (j < length xs → getD xs i 0 < getD xs j 0) → (i < length xs → getD xs i 0 < n)
-        → getD (xs ++ cond b (n ∷ []) []) i 0 < getD (xs ++ cond b (n ∷ []) []) j 0
-    go false k r q =
-        let k′ : j < length xs = rw append-nil at k in
-        rw append-nil (r k′)
-    go true k r q = last (decLt j (length xs))
-      where
-        last : Dec (j < length xs) → getD (xs ++ (n ∷ [])) i 0 < getD (xs ++ (n ∷ [])) j 0
-        last (yes z) = rw (List·getD-append xs (n ∷ []) 0 i (omega arith), List·getD-append xs (n ∷ []) 0 j z) (r z)
-        last (no z) =
-            let e : length xs ≡ j = omega (arith, length-append xs (n ∷ [])) in
-            rw (List·getD-append xs (n ∷ []) 0 i (omega arith), getD-at xs n [] 0 j e) (q (omega arith))

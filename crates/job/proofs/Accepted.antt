@@ -12,7 +12,7 @@ use Rattle.pages.proofs.Lists.{and}
 use Rattle.pages.specs.declared.Rect.{Rect}
 use Rattle.query.specs.Opening.{joined}
 use Rattle.history.specs.Book.{Call}
-use Rattle.job.specs.Sizes.{JOB_BYTES, WORD_BYTES, BYTE, HIGH, PIECE_WORDS, QUERY_HEAD, CLAUSE_COUNT, CLAUSE_WORDS}
+use Rattle.job.specs.Sizes.{JOB_BYTES, WORD_BYTES, BYTE_VALUES, WORD_VALUES, PIECE_WORDS, QUERY_HEAD, CLAUSE_COUNT_AT, CLAUSE_WORDS}
 use Rattle.job.specs.Job.{Query, Job, rectWords, pieceWords, clauseWords, queryWords, jobWords, littleEndian, jobBytes}
 use Rattle.job.specs.Words.{wordAt, rectAt, clauseAt, clausesAt, pieceCount, pieceStart, pieceAt, piecesIn, queryCount, queryStart, queryAt, queriesIn, jobIn, wellFormed}
 use Rattle.job.specs.Claims.{Words}
@@ -24,16 +24,16 @@ use Rattle.job.proofs.InOrder.{last-piece, last-query, no-piece, no-que
 abbrev bytesOf : List ℕ → List ℕ
 bytesOf ws = joined (littleEndian WORD_BYTES) ws
 
-first-word : (w : ℕ) (rest : List ℕ) → w < HIGH → wordAt (littleEndian WORD_BYTES w ++ rest) 0 ≡ w
+first-word : (w : ℕ) (rest : List ℕ) → w < WORD_VALUES → wordAt (littleEndian WORD_BYTES w ++ rest) 0 ≡ w
 unfolding wordAt
 first-word w rest h =
     omega (
       arith,
-      div-add-mod w BYTE,
-      div-add-mod (w / BYTE) BYTE,
-      div-add-mod (w / BYTE / BYTE) BYTE,
-      div-add-mod (w / BYTE / BYTE / BYTE) BYTE,
-      mod-lt (w / BYTE / BYTE / BYTE) {m = BYTE} (omega arith),
+      div-add-mod w BYTE_VALUES,
+      div-add-mod (w / BYTE_VALUES) BYTE_VALUES,
+      div-add-mod (w / BYTE_VALUES / BYTE_VALUES) BYTE_VALUES,
+      div-add-mod (w / BYTE_VALUES / BYTE_VALUES / BYTE_VALUES) BYTE_VALUES,
+      mod-lt (w / BYTE_VALUES / BYTE_VALUES / BYTE_VALUES) {m = BYTE_VALUES} (omega arith),
     )
 
 later-word : (w : ℕ) (rest : List ℕ) (i : ℕ) → wordAt (littleEndian WORD_BYTES w ++ rest) (suc i) ≡ wordAt rest i
@@ -125,7 +125,7 @@ module _ (ws : List ℕ) where
     clause-read : (m c : ℕ) (tail : List ℕ) → At ws m (clauseWords c ++ tail) → clauseAt b m ≡ c
     unfolding clauseWords
     clause-read m c tail A =
-        omega (arith, read-at m (clauseWords c ++ tail) 0 m A (omega arith), read-at m (clauseWords c ++ tail) 1 (m + 1) A refl, div-add-mod c HIGH)
+        omega (arith, read-at m (clauseWords c ++ tail) 0 m A (omega arith), read-at m (clauseWords c ++ tail) 1 (m + 1) A refl, div-add-mod c WORD_VALUES)
 
     clause-size : (c : ℕ) → length (clauseWords c) ≡ CLAUSE_WORDS
     unfolding clauseWords
@@ -150,17 +150,17 @@ module _ (ws : List ℕ) where
     unfolding queryWords
     query-parts q tail = refl
 
-    query-at : (s : ℕ) → queryAt b s ≡ record { reference = rectAt b s; clauses = clausesAt b (s + QUERY_HEAD) (wordAt b (s + CLAUSE_COUNT)) }
+    query-at : (s : ℕ) → queryAt b s ≡ record { reference = rectAt b s; clauses = clausesAt b (s + QUERY_HEAD) (wordAt b (s + CLAUSE_COUNT_AT)) }
     unfolding queryAt
     query-at s = refl
 
     query-read : (s : ℕ) (q : Query) (tail : List ℕ) → At ws s (queryWords q ++ tail)
-        → (queryAt b s ≡ q) × At ws (s + QUERY_HEAD + CLAUSE_WORDS * wordAt b (s + CLAUSE_COUNT)) tail
+        → (queryAt b s ≡ q) × At ws (s + QUERY_HEAD + CLAUSE_WORDS * wordAt b (s + CLAUSE_COUNT_AT)) tail
     query-read s q tail A =
         let cs = q .clauses in
         let rest = joined clauseWords cs ++ tail in
         let A' = rw (query-parts q tail) at A in
-        let count = read-at s (rectWords (q .reference) ++ (length cs ∷ rest)) CLAUSE_COUNT (s + CLAUSE_COUNT) A' refl in
+        let count = read-at s (rectWords (q .reference) ++ (length cs ∷ rest)) CLAUSE_COUNT_AT (s + CLAUSE_COUNT_AT) A' refl in
         let B = move s (s + QUERY_HEAD + CLAUSE_WORDS * 0) (rectWords (q .reference) ++ (length cs ∷ [])) rest A' (omega arith) in
         let done = clauses-read cs (s + QUERY_HEAD) 0 (length cs) tail (omega arith) B in (
           query-at s

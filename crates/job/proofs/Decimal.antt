@@ -8,12 +8,12 @@ use native.Mathlib.Nat.{div-lt-self, div-lt-iff-lt-mul, pow-suc}
 use borrow.Author.Tests.{ltb-true, ltb-false, lt-ltb, le-ltb}
 use lib.Dec.{ltb}
 use lib.ListN.{length, length-append}
-use Rattle.job.specs.Lines.{ZERO, digits, decimal}
+use Rattle.job.specs.Lines.{DIGIT_ZERO, digits, decimal}
 
 abbrev last : ℕ → List ℕ
-last n = (ZERO + n % 10) ∷ []
+last n = (DIGIT_ZERO + n % 10) ∷ []
 
-one-digit : (f n : ℕ) → n < 10 → digits (suc f) n ≡ (ZERO + n) ∷ []
+one-digit : (f n : ℕ) → n < 10 → digits (suc f) n ≡ (DIGIT_ZERO + n) ∷ []
 unfolding digits
 one-digit f n h = simp (lt-ltb n 10 h)
 
@@ -42,7 +42,7 @@ same-digits (suc f) (suc g) n hf hg =
     ∙ ap (λ l. l ++ last n) (same-digits f g (n / 10) (tenth-less n f h hf) (tenth-less n g h hg))
     ∙ sym (more-digits g n h))
 
-pub decimal-one : (n : ℕ) → n < 10 → decimal n ≡ (ZERO + n) ∷ []
+pub decimal-one : (n : ℕ) → n < 10 → decimal n ≡ (DIGIT_ZERO + n) ∷ []
 unfolding decimal
 decimal-one n h = one-digit n n h
 

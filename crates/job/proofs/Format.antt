@@ -9,7 +9,7 @@ use lib.ListN.{length, getD, take}
 use lib.Seq.{take-suc, take-all}
 use lib.Dec.{T}
 use Rattle.query.specs.Opening.{joined}
-use Rattle.job.specs.Sizes.{WORD_BYTES, BYTE, HIGH, QUERY_HEAD, CLAUSE_COUNT, CLAUSE_WORDS}
+use Rattle.job.specs.Sizes.{WORD_BYTES, BYTE_VALUES, WORD_VALUES, QUERY_HEAD, CLAUSE_COUNT_AT, CLAUSE_WORDS}
 use Rattle.job.specs.Job.{rectWords, pieceWords, clauseWords, queryWords, jobWords, littleEndian, jobBytes}
 use Rattle.job.specs.Words.{wordAt, rectAt, clauseAt, clausesAt, pieceCount, pieceStart, pieceAt, piecesIn, queryCount, queryStart, queryAt, queriesIn, jobIn, wellFormed}
 use Rattle.job.specs.Claims.{Bytes}
@@ -49,15 +49,15 @@ low base a n h = add-mul-mod-self-left a base n ∙ mod-eq-of-lt h
 high : (base a n : ℕ) → a < base → (a + base * n) / base ≡ n
 high base a n h = let some : 0 < base = omega arith in add-mul-div-left a n {y = base} some ∙ rw (div-eq-of-lt h) (omega arith)
 
-four-bytes : (a b c d : ℕ) → a < BYTE → b < BYTE → c < BYTE → d < BYTE → littleEndian WORD_BYTES (a + BYTE * (b + BYTE * (c + BYTE * d))) ≡ a ∷ b ∷ c ∷ d ∷ []
+four-bytes : (a b c d : ℕ) → a < BYTE_VALUES → b < BYTE_VALUES → c < BYTE_VALUES → d < BYTE_VALUES → littleEndian WORD_BYTES (a + BYTE_VALUES * (b + BYTE_VALUES * (c + BYTE_VALUES * d))) ≡ a ∷ b ∷ c ∷ d ∷ []
 four-bytes a b c d ha hb hc hd =
     rw (
-      low BYTE a (b + BYTE * (c + BYTE * d)) ha,
-      high BYTE a (b + BYTE * (c + BYTE * d)) ha,
-      low BYTE b (c + BYTE * d) hb,
-      high BYTE b (c + BYTE * d) hb,
-      low BYTE c d hc,
-      high BYTE c d hc,
+      low BYTE_VALUES a (b + BYTE_VALUES * (c + BYTE_VALUES * d)) ha,
+      high BYTE_VALUES a (b + BYTE_VALUES * (c + BYTE_VALUES * d)) ha,
+      low BYTE_VALUES b (c + BYTE_VALUES * d) hb,
+      high BYTE_VALUES b (c + BYTE_VALUES * d) hb,
+      low BYTE_VALUES c d hc,
+      high BYTE_VALUES c d hc,
       mod-eq-of-lt hd,
     )
 
@@ -91,11 +91,11 @@ module _ (b : List ℕ) where
       ∙ ap (λ l. l ++ pieceWords (pieceAt b n)) (pieces-behind n)
       ∙ piece-words n
 
-  module _ (short : (i : ℕ) → wordAt b i < HIGH) where
+  module _ (short : (i : ℕ) → wordAt b i < WORD_VALUES) where
     clause-words : (m : ℕ) → words b m ++ clauseWords (clauseAt b m) ≡ words b (m + CLAUSE_WORDS)
     unfolding clauseWords
     clause-words m =
-        rw (low HIGH (wordAt b m) (wordAt b (m + 1)) (short m), high HIGH (wordAt b m) (wordAt b (m + 1)) (short m))
+        rw (low WORD_VALUES (wordAt b m) (wordAt b (m + 1)) (short m), high WORD_VALUES (wordAt b m) (wordAt b (m + 1)) (short m))
         (sym (two-more (words b) (wordAt b) (m + 2) (λ i h. one-word i) m (omega arith)))
 
     clauses-behind : (s n : ℕ) → words b s ++ joined clauseWords (clausesAt b s n) ≡ words b (s + CLAUSE_WORDS * n)
@@ -114,21 +114,21 @@ module _ (b : List ℕ) where
 
     query-is : (s : ℕ) → queryWords (queryAt b s)
         ≡ rectWords (rectAt b s)
-        ++ (length (clausesAt b (s + QUERY_HEAD) (wordAt b (s + CLAUSE_COUNT))) ∷ joined clauseWords (clausesAt b (s + QUERY_HEAD) (wordAt b (s + CLAUSE_COUNT))))
+        ++ (length (clausesAt b (s + QUERY_HEAD) (wordAt b (s + CLAUSE_COUNT_AT))) ∷ joined clauseWords (clausesAt b (s + QUERY_HEAD) (wordAt b (s + CLAUSE_COUNT_AT))))
     unfolding queryWords queryAt
     query-is s = refl
 
     -- the queries behind theirs
-    query-words : (s : ℕ) → words b s ++ queryWords (queryAt b s) ≡ words b (s + QUERY_HEAD + CLAUSE_WORDS * wordAt b (s + CLAUSE_COUNT))
+    query-words : (s : ℕ) → words b s ++ queryWords (queryAt b s) ≡ words b (s + QUERY_HEAD + CLAUSE_WORDS * wordAt b (s + CLAUSE_COUNT_AT))
     query-words s =
-        let c = wordAt b (s + CLAUSE_COUNT) in
+        let c = wordAt b (s + CLAUSE_COUNT_AT) in
         let clauses = clausesAt b (s + QUERY_HEAD) c in
-        let head : s + CLAUSE_COUNT + 1 ≡ s + QUERY_HEAD = omega arith in
+        let head : s + CLAUSE_COUNT_AT + 1 ≡ s + QUERY_HEAD = omega arith in
         ap (λ l. words b s ++ l) (query-is s)
         ∙ ap (λ n. words b s ++ (rectWords (rectAt b s) ++ (n ∷ joined clauseWords clauses))) (length-clauses b (s + QUERY_HEAD) c)
         ∙ sym (append-assoc (words b s) (rectWords (rectAt b s)) (c ∷ joined clauseWords clauses))
         ∙ ap (λ l. l ++ (c ∷ joined clauseWords clauses)) (sym (four-words s))
-        ∙ behind-one (s + CLAUSE_COUNT) (joined clauseWords clauses)
+        ∙ behind-one (s + CLAUSE_COUNT_AT) (joined clauseWords clauses)
         ∙ ap (λ m. words b m ++ joined clauseWords clauses) head
         ∙ clauses-behind (s + QUERY_HEAD) c
 
@@ -162,7 +162,7 @@ module _ (b : List ℕ) where
         ∙ queries-behind (queryCount b)
 
   module _ (bytes : Bytes b) where
-    word-short : (i : ℕ) → wordAt b i < HIGH
+    word-short : (i : ℕ) → wordAt b i < WORD_VALUES
     unfolding wordAt
     word-short i = omega (arith, bytes (WORD_BYTES * i), bytes (WORD_BYTES * i + 1), bytes (WORD_BYTES * i + 2), bytes (WORD_BYTES * i + 3))
 

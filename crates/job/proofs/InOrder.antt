@@ -8,14 +8,16 @@ use native.Mathlib.Omega.{arith}
 use lib.ListN.{length, length-append}
 use lib.Dec.{T}
 use Rattle.pages.specs.Calls.{emptyWords}
+use Rattle.pages.proofs.Lists.{T-true}
 use Rattle.placing.specs.Calls.{placeCall}
 use Rattle.history.specs.Book.{Call}
 use Rattle.history.specs.History.{placed}
+use Rattle.history.proofs.Replaying.{placed-more}
 use Rattle.job.specs.Job.{Query}
-use Rattle.job.specs.Output.{pieceLine, queryLine, answerOf, pieceLines, queryLines, lines, badJob}
+use Rattle.job.specs.Output.{pieceLine, queryLine, answerOf, pieceLines, queryLines, jobLines, badJob}
 use Rattle.job.specs.Words.{pieceCount, pieceAt, piecesIn, queryCount, queryStart, queryAt, queriesIn, jobIn, wellFormed, output}
 use Rattle.job.specs.Steps.{tableAt, pieceLineAt, queryLineAt, linesTo}
-use Rattle.job.proofs.Tables.{is-true, first-table}
+use Rattle.job.proofs.Tables.{first-table}
 
 -- what the definitions say of no item, and of one and the others
 no-placed : (w : List ℕ) → placed w [] ≡ w
@@ -44,10 +46,6 @@ unfolding queryLines
 more-queries i w q qs = refl
 
 -- one item more
-placed-last : (w : List ℕ) (cs : List Call) (c : Call) → placed w (cs ++ (c ∷ [])) ≡ placeCall (placed w cs) (c .number) (c .rect) .1
-placed-last w [] c = rw (more-placed, no-placed, no-placed)
-placed-last w (d ∷ ds) c = rw (more-placed w d (ds ++ (c ∷ [])), more-placed w d ds) (placed-last (placeCall w (d .number) (d .rect) .1) ds c)
-
 pieces-last : (i k : ℕ) (w : List ℕ) (cs : List Call) (c : Call) → k ≡ length cs + i
     → pieceLines i w (cs ++ (c ∷ [])) ≡ pieceLines i w cs ++ pieceLine k (placeCall (placed w cs) (c .number) (c .rect) .0)
 pieces-last i k w [] c e =
@@ -102,7 +100,7 @@ module _ (b : List ℕ) where
   table-is zero = ap (placed emptyWords) no-piece ∙ no-placed emptyWords ∙ sym (first-table b)
   table-is (suc n) =
       ap (placed emptyWords) (last-piece n)
-      ∙ placed-last emptyWords (piecesIn b n) (pieceAt b n)
+      ∙ placed-more (piecesIn b n) emptyWords (pieceAt b n)
       ∙ ap (λ w. placeCall w (pieceAt b n .number) (pieceAt b n .rect) .1) (table-is n)
       ∙ sym (next-table n)
 
@@ -129,11 +127,11 @@ module _ (b : List ℕ) where
       ∙ queries-last 0 n (tableAt b (pieceCount b)) (queriesIn b n) (queryAt b (queryStart b n)) (omega (arith, length-queries n))
       ∙ rw (← query-line n, query-lines n)
 
-  job-lines : lines (jobIn b) ≡ pieceLines 0 emptyWords (piecesIn b (pieceCount b)) ++ queryLines 0 (placed emptyWords (piecesIn b (pieceCount b))) (queriesIn b (queryCount b))
-  unfolding lines jobIn
+  job-lines : jobLines (jobIn b) ≡ pieceLines 0 emptyWords (piecesIn b (pieceCount b)) ++ queryLines 0 (placed emptyWords (piecesIn b (pieceCount b))) (queriesIn b (queryCount b))
+  unfolding jobLines jobIn
   job-lines = refl
 
-  output-tests : output b ≡ cond (wellFormed b) (lines (jobIn b)) badJob
+  output-tests : output b ≡ cond (wellFormed b) (jobLines (jobIn b)) badJob
   unfolding output
   output-tests = refl
 
@@ -141,11 +139,11 @@ module _ (b : List ℕ) where
   pub in-order : T (wellFormed b) → output b ≡ linesTo (pieceLineAt b) (pieceCount b) ++ linesTo (queryLineAt b) (queryCount b)
   in-order good =
       output-tests
-      ∙ ap (λ x. cond x (lines (jobIn b)) badJob) (is-true (wellFormed b) good)
+      ∙ ap (λ x. cond x (jobLines (jobIn b)) badJob) (T-true (wellFormed b) good)
       ∙ job-lines
       ∙ ap (λ w. pieceLines 0 emptyWords (piecesIn b (pieceCount b)) ++ queryLines 0 w (queriesIn b (queryCount b))) (table-is (pieceCount b))
       ∙ rw (piece-lines (pieceCount b), query-lines (queryCount b))
 
   -- and of any other bytes "bad job"
   pub bad : wellFormed b ≡ false → output b ≡ badJob
-  bad h = output-tests ∙ ap (λ x. cond x (lines (jobIn b)) badJob) h
+  bad h = output-tests ∙ ap (λ x. cond x (jobLines (jobIn b)) badJob) h

@@ -5,9 +5,9 @@ use mathlib.Core.Bool.{cond}
 use mathlib.Core.List.{List, [], _∷_}
 use native.Mathlib.Omega.{arith}
 use native.Mathlib.Numerals.{add-one}
-use borrow.Author.Tests.{leb-true, eqb-true, eq-eqb, ne-eqb}
+use borrow.Author.Tests.{eq-eqb, ne-eqb}
 use lib.ListN.{length, length-replicate}
-use lib.Dec.{T, leb, eqb}
+use lib.Dec.{T, leb, eqb, leb→le, eqb→eq}
 use Rattle.pages.specs.declared.Rect.{Rect}
 use Rattle.pages.specs.Sizes.{PIECES}
 use Rattle.pages.specs.Refusals.{ACCEPTED}
@@ -15,13 +15,13 @@ use Rattle.pages.proofs.Lists.{both}
 use Rattle.placing.specs.Calls.{placeSound, placeCall}
 use Rattle.query.specs.declared.Answer.{Answer}
 use Rattle.query.specs.Calls.{querySound, queryCall}
-use Rattle.job.specs.Sizes.{JOB_BYTES, WORD_BYTES, PIECE_WORDS, QUERY_HEAD, CLAUSE_COUNT, CLAUSE_WORDS}
+use Rattle.job.specs.Sizes.{JOB_BYTES, WORD_BYTES, PIECE_WORDS, QUERY_HEAD, CLAUSE_COUNT_AT, CLAUSE_WORDS}
 use Rattle.job.specs.Lines.{UNPLACED, line}
 use Rattle.job.specs.Output.{pieceLine, queryLine, room, answerOf}
 use Rattle.job.specs.Words.{wordAt, rectAt, clausesAt, pieceCount, pieceStart, pieceAt, queryCount, queryStart, queryAt, wellFormed}
 use Rattle.job.specs.Steps.{tableAt, pieceLineAt, queryLineAt}
 use Rattle.job.proofs.Places.{first-start, next-start, ends-before, starts-after}
-use Rattle.job.proofs.Tables.{is-true, place-is, query-is, fine-table}
+use Rattle.job.proofs.Tables.{place-is, query-is, fine-table}
 use Rattle.job.proofs.Asking.{same-line}
 
 module _ (b : List ℕ) (good : T (wellFormed b)) where
@@ -30,15 +30,15 @@ module _ (b : List ℕ) (good : T (wellFormed b)) where
   parts = both (leb (length b) JOB_BYTES) (eqb (length b) (WORD_BYTES * queryStart b (queryCount b))) good
 
   pub short : length b ≤ JOB_BYTES
-  short = leb-true _ _ (is-true _ (parts .0))
+  short = leb→le _ _ (parts .0)
 
   pub exact : length b ≡ WORD_BYTES * queryStart b (queryCount b)
-  exact = eqb-true _ _ (is-true _ (parts .1))
+  exact = eqb→eq _ _ (parts .1)
 
   pub piece-room : (i : ℕ) → i < pieceCount b → WORD_BYTES * (pieceStart i + PIECE_WORDS) ≤ length b
   piece-room i h = omega (arith, exact, first-start b, starts-after b (queryCount b))
 
-  pub query-room : (i at : ℕ) → i < queryCount b → at ≡ queryStart b i → WORD_BYTES * (at + QUERY_HEAD + CLAUSE_WORDS * wordAt b (at + CLAUSE_COUNT)) ≤ length b
+  pub query-room : (i at : ℕ) → i < queryCount b → at ≡ queryStart b i → WORD_BYTES * (at + QUERY_HEAD + CLAUSE_WORDS * wordAt b (at + CLAUSE_COUNT_AT)) ≤ length b
   query-room i at h e = rw e (omega (arith, exact, next-start b i, ends-before b i (queryCount b) h))
 
   -- each query has words of its own, so there are few
@@ -77,24 +77,24 @@ module _ (b : List ℕ) (i : ℕ) (t : List ℕ) (number : ℕ) (rect : Rect) (t
 -- the line of a query, from what the query call returned
 module _ (b : List ℕ) (i at : ℕ) (table answer : List ℕ) (a : Answer) (after : List ℕ)
     (et : table ≡ tableAt b (pieceCount b)) (ea : at ≡ queryStart b i) (size : length answer ≡ PIECES)
-    (called : (a, after) ≡ querySound table (rectAt b at) (clausesAt b (at + QUERY_HEAD) (wordAt b (at + CLAUSE_COUNT))) answer) where
+    (called : (a, after) ≡ querySound table (rectAt b at) (clausesAt b (at + QUERY_HEAD) (wordAt b (at + CLAUSE_COUNT_AT))) answer) where
   room-size : length room ≡ PIECES
   unfolding room
   room-size = length-replicate {A = ℕ} PIECES 0
 
   abbrev asked : List ℕ → ℕ → List ℕ → Answer × List ℕ
-  asked w s a = querySound w (rectAt b s) (clausesAt b (s + QUERY_HEAD) (wordAt b (s + CLAUSE_COUNT))) a
+  asked w s a = querySound w (rectAt b s) (clausesAt b (s + QUERY_HEAD) (wordAt b (s + CLAUSE_COUNT_AT))) a
 
   line-at : queryLineAt b i
-      ≡ queryLine i (queryCall (tableAt b (pieceCount b)) (rectAt b (queryStart b i)) (clausesAt b (queryStart b i + QUERY_HEAD) (wordAt b (queryStart b i + CLAUSE_COUNT))) room)
+      ≡ queryLine i (queryCall (tableAt b (pieceCount b)) (rectAt b (queryStart b i)) (clausesAt b (queryStart b i + QUERY_HEAD) (wordAt b (queryStart b i + CLAUSE_COUNT_AT))) room)
   unfolding queryLineAt answerOf queryAt
   line-at = refl
 
   pub query-made : queryLine i (a, after) ≡ queryLineAt b i
   query-made =
       ap (queryLine i) called
-      ∙ same-line table (rectAt b at) (clausesAt b (at + QUERY_HEAD) (wordAt b (at + CLAUSE_COUNT))) i answer room (size ∙ sym room-size)
+      ∙ same-line table (rectAt b at) (clausesAt b (at + QUERY_HEAD) (wordAt b (at + CLAUSE_COUNT_AT))) i answer room (size ∙ sym room-size)
       ∙ ap (λ w. queryLine i (asked w at room)) et
       ∙ ap (λ s. queryLine i (asked (tableAt b (pieceCount b)) s room)) ea
-      ∙ ap (queryLine i) (sym (query-is (tableAt b (pieceCount b)) (fine-table b (pieceCount b)) (rectAt b (queryStart b i)) (clausesAt b (queryStart b i + QUERY_HEAD) (wordAt b (queryStart b i + CLAUSE_COUNT))) room))
+      ∙ ap (queryLine i) (sym (query-is (tableAt b (pieceCount b)) (fine-table b (pieceCount b)) (rectAt b (queryStart b i)) (clausesAt b (queryStart b i + QUERY_HEAD) (wordAt b (queryStart b i + CLAUSE_COUNT_AT))) room))
       ∙ sym line-at

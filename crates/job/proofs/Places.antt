@@ -10,7 +10,7 @@ use borrow.Author.Tests.{le-leb, lt-leb, ne-eqb}
 use lib.ListN.{length}
 use lib.Dec.{T, leb, eqb}
 use Rattle.job.specs.declared.Shape.{Shape}
-use Rattle.job.specs.Sizes.{JOB_BYTES, WORD_BYTES, QUERY_HEAD, CLAUSE_COUNT, CLAUSE_WORDS}
+use Rattle.job.specs.Sizes.{JOB_BYTES, WORD_BYTES, QUERY_HEAD, CLAUSE_COUNT_AT, CLAUSE_WORDS}
 use Rattle.job.specs.Words.{wordAt, pieceCount, pieceStart, queryCount, queryStart, wellFormed}
 use Rattle.job.specs.Steps.{noShape, shapeOf}
 
@@ -19,11 +19,11 @@ module _ (b : List ℕ) where
   unfolding queryStart
   first-start = refl
 
-  pub next-start : (i : ℕ) → queryStart b (suc i) ≡ queryStart b i + QUERY_HEAD + CLAUSE_WORDS * wordAt b (queryStart b i + CLAUSE_COUNT)
+  pub next-start : (i : ℕ) → queryStart b (suc i) ≡ queryStart b i + QUERY_HEAD + CLAUSE_WORDS * wordAt b (queryStart b i + CLAUSE_COUNT_AT)
   unfolding queryStart
   next-start i = refl
 
-  pub next-place : (at i clauses : ℕ) → at ≡ queryStart b i → clauses ≡ wordAt b (at + CLAUSE_COUNT) → at + QUERY_HEAD + CLAUSE_WORDS * clauses ≡ queryStart b (i + 1)
+  pub next-place : (at i clauses : ℕ) → at ≡ queryStart b i → clauses ≡ wordAt b (at + CLAUSE_COUNT_AT) → at + QUERY_HEAD + CLAUSE_WORDS * clauses ≡ queryStart b (i + 1)
   next-place at i clauses e w = rw (w, e, add-one, next-start)
 
   -- a query ends before a later one begins

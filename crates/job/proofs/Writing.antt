@@ -7,19 +7,19 @@ use native.Mathlib.Numerals.{add-one}
 use lib.ListN.{length, take, set, getD}
 use lib.Seq.{take-suc, take-suc-set, take-all}
 use Rattle.job.specs.Sizes.{FIELD_BYTES}
-use Rattle.job.specs.Lines.{ZERO, SPACE, NEWLINE, decimal, fields, line}
+use Rattle.job.specs.Lines.{DIGIT_ZERO, SPACE, NEWLINE, decimal, fields, line}
 use Rattle.job.proofs.Decimal.{decimal-one, decimal-more, length-one, length-more, word-decimal}
 
 pub put-byte : (out : List ℕ) (at v : ℕ) → at < length out → take (at + 1) (set out at v) ≡ take at out ++ (v ∷ [])
 put-byte out at v h = rw (add-one, take-suc-set)
 
 -- a number of one digit
-pub put-one : (out : List ℕ) (at n v : ℕ) → v ≡ ZERO + n → n < 10 → at + length (decimal n) ≤ length out
+pub put-one : (out : List ℕ) (at n v : ℕ) → v ≡ DIGIT_ZERO + n → n < 10 → at + length (decimal n) ≤ length out
     → (at + 1 ≡ at + length (decimal n)) × (take (at + 1) (set out at v) ≡ take at out ++ decimal n)
-put-one out at n v e h room = rw (decimal-one n h, e) (refl, put-byte out at (ZERO + n) (omega (arith, length-one n h)))
+put-one out at n v e h room = rw (decimal-one n h, e) (refl, put-byte out at (DIGIT_ZERO + n) (omega (arith, length-one n h)))
 
 -- the last digit of a longer number, after the others
-pub put-more : (out mid : List ℕ) (at n next v : ℕ) → v ≡ ZERO + n % 10 → 10 ≤ n → next ≡ at + length (decimal (n / 10))
+pub put-more : (out mid : List ℕ) (at n next v : ℕ) → v ≡ DIGIT_ZERO + n % 10 → 10 ≤ n → next ≡ at + length (decimal (n / 10))
     → take next mid ≡ take at out ++ decimal (n / 10) → length mid ≡ length out → at + length (decimal n) ≤ length out
     → (next + 1 ≡ at + length (decimal n)) × (take (next + 1) (set mid next v) ≡ take at out ++ decimal n)
 put-more out mid at n next v e h ends before same room =

@@ -5,7 +5,7 @@ use lib.ListN.{length}
 use Rattle.pages.specs.declared.Rect.{Rect}
 use Rattle.query.specs.Opening.{joined}
 use Rattle.history.specs.Book.{Call}
-use Rattle.job.specs.Sizes.{WORD_BYTES, BYTE, HIGH}
+use Rattle.job.specs.Sizes.{WORD_BYTES, BYTE_VALUES, WORD_VALUES}
 
 pub record Query : Type 0 where
   pub reference : Rect
@@ -25,7 +25,7 @@ pieceWords c = c .number ∷ rectWords (c .rect)
 
 -- "each clause as low word, high word"
 unfoldable pub clauseWords : ℕ → List ℕ
-clauseWords c = (c % HIGH) ∷ (c / HIGH) ∷ []
+clauseWords c = (c % WORD_VALUES) ∷ (c / WORD_VALUES) ∷ []
 
 -- "x1, y1, x2, y2, clause count, then each clause"
 unfoldable pub queryWords : Query → List ℕ
@@ -44,7 +44,7 @@ jobWords j =
 -- the lowest byte first
 abbrev pub littleEndian : ℕ → ℕ → List ℕ
 littleEndian zero n = []
-littleEndian (suc k) n = (n % BYTE) ∷ littleEndian k (n / BYTE)
+littleEndian (suc k) n = (n % BYTE_VALUES) ∷ littleEndian k (n / BYTE_VALUES)
 
 unfoldable pub jobBytes : Job → List ℕ
 unfolding jobWords

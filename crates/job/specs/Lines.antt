@@ -4,8 +4,8 @@ use mathlib.Core.Bool.{cond}
 use mathlib.Core.List.{List, [], _∷_, _++_}
 use lib.Dec.{ltb}
 
-abbrev pub ZERO : ℕ
-ZERO = 48
+abbrev pub DIGIT_ZERO : ℕ
+DIGIT_ZERO = 48
 
 abbrev pub SPACE : ℕ
 SPACE = 32
@@ -26,7 +26,7 @@ REFUSED = 82
 -- the digits of n, the last one last, where `turns` divisions by ten suffice
 unfoldable pub digits : ℕ → ℕ → List ℕ
 digits zero n = []
-digits (suc turns) n = cond (ltb n 10) ((ZERO + n) ∷ []) (digits turns (n / 10) ++ ((ZERO + n % 10) ∷ []))
+digits (suc turns) n = cond (ltb n 10) ((DIGIT_ZERO + n) ∷ []) (digits turns (n / 10) ++ ((DIGIT_ZERO + n % 10) ∷ []))
 
 -- n in decimal, with no zero in front
 unfoldable pub decimal : ℕ → List ℕ

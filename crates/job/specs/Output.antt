@@ -50,9 +50,9 @@ queryLines position words [] = []
 queryLines position words (q ∷ qs) = queryLine position (answerOf words q) ++ queryLines (suc position) words qs
 
 -- the pieces are placed in the empty table, then the queries are answered
-unfoldable pub lines : Job → List ℕ
+unfoldable pub jobLines : Job → List ℕ
 unfolding pieceLines queryLines placed emptyWords
-lines j = pieceLines 0 emptyWords (j .pieces) ++ queryLines 0 (placed emptyWords (j .pieces)) (j .queries)
+jobLines j = pieceLines 0 emptyWords (j .pieces) ++ queryLines 0 (placed emptyWords (j .pieces)) (j .queries)
 
 -- "bad job", and a newline
 unfoldable pub badJob : List ℕ

@@ -9,13 +9,12 @@ JOB_BYTES = 65_536
 abbrev pub WORD_BYTES : ℕ
 WORD_BYTES = 4
 
--- how many values a byte has
-abbrev pub BYTE : ℕ
-BYTE = 256
+-- how many values a byte has, and a word
+abbrev pub BYTE_VALUES : ℕ
+BYTE_VALUES = 256
 
--- what a one in the high word of a clause counts for
-abbrev pub HIGH : ℕ
-HIGH = 4_294_967_296
+abbrev pub WORD_VALUES : ℕ
+WORD_VALUES = 4_294_967_296
 
 -- "Pieces: number, x1, y1, x2, y2"
 abbrev pub PIECE_WORDS : ℕ
@@ -25,9 +24,9 @@ PIECE_WORDS = 5
 abbrev pub QUERY_HEAD : ℕ
 QUERY_HEAD = 5
 
--- the last word of that head
-abbrev pub CLAUSE_COUNT : ℕ
-CLAUSE_COUNT = 4
+-- the place of the clause count among them
+abbrev pub CLAUSE_COUNT_AT : ℕ
+CLAUSE_COUNT_AT = 4
 
 abbrev pub CLAUSE_WORDS : ℕ
 CLAUSE_WORDS = 2

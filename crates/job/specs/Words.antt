@@ -7,22 +7,22 @@ use lib.Dec.{leb, eqb}
 use Rattle.pages.specs.declared.Rect.{Rect}
 use Rattle.pages.specs.Rectangles.{rectOf}
 use Rattle.history.specs.Book.{Call}
-use Rattle.job.specs.Sizes.{JOB_BYTES, WORD_BYTES, BYTE, HIGH, PIECE_WORDS, QUERY_HEAD, CLAUSE_COUNT, CLAUSE_WORDS}
+use Rattle.job.specs.Sizes.{JOB_BYTES, WORD_BYTES, BYTE_VALUES, WORD_VALUES, PIECE_WORDS, QUERY_HEAD, CLAUSE_COUNT_AT, CLAUSE_WORDS}
 use Rattle.job.specs.Job.{Query, Job}
-use Rattle.job.specs.Output.{lines, badJob}
+use Rattle.job.specs.Output.{jobLines, badJob}
 
 -- word i, "little-endian"; past the end, zeros
 unfoldable pub wordAt : List ℕ → ℕ → ℕ
 wordAt b i =
     getD b (WORD_BYTES * i) 0
-    + BYTE * (getD b (WORD_BYTES * i + 1) 0 + BYTE * (getD b (WORD_BYTES * i + 2) 0 + BYTE * getD b (WORD_BYTES * i + 3) 0))
+    + BYTE_VALUES * (getD b (WORD_BYTES * i + 1) 0 + BYTE_VALUES * (getD b (WORD_BYTES * i + 2) 0 + BYTE_VALUES * getD b (WORD_BYTES * i + 3) 0))
 
 abbrev pub rectAt : List ℕ → ℕ → Rect
 rectAt b i = rectOf (wordAt b i) (wordAt b (i + 1)) (wordAt b (i + 2)) (wordAt b (i + 3))
 
 -- "low word, high word"
 abbrev pub clauseAt : List ℕ → ℕ → ℕ
-clauseAt b i = wordAt b i + HIGH * wordAt b (i + 1)
+clauseAt b i = wordAt b i + WORD_VALUES * wordAt b (i + 1)
 
 unfoldable pub clausesAt : List ℕ → ℕ → ℕ → List ℕ
 clausesAt b i zero = []
@@ -49,11 +49,11 @@ queryCount b = wordAt b (pieceStart (pieceCount b))
 -- where query i begins: each ends after its clauses
 unfoldable pub queryStart : List ℕ → ℕ → ℕ
 queryStart b zero = pieceStart (pieceCount b) + 1
-queryStart b (suc i) = queryStart b i + QUERY_HEAD + CLAUSE_WORDS * wordAt b (queryStart b i + CLAUSE_COUNT)
+queryStart b (suc i) = queryStart b i + QUERY_HEAD + CLAUSE_WORDS * wordAt b (queryStart b i + CLAUSE_COUNT_AT)
 
 unfoldable pub queryAt : List ℕ → ℕ → Query
 unfolding clausesAt
-queryAt b i = record { reference = rectAt b i; clauses = clausesAt b (i + QUERY_HEAD) (wordAt b (i + CLAUSE_COUNT)) }
+queryAt b i = record { reference = rectAt b i; clauses = clausesAt b (i + QUERY_HEAD) (wordAt b (i + CLAUSE_COUNT_AT)) }
 
 unfoldable pub queriesIn : List ℕ → ℕ → List Query
 unfolding queryAt queryStart
@@ -71,5 +71,5 @@ wellFormed b = leb (length b) JOB_BYTES && eqb (length b) (WORD_BYTES * querySta
 
 -- what the program prints when these bytes are its standard input
 unfoldable pub output : List ℕ → List ℕ
-unfolding wellFormed lines jobIn badJob
-output b = cond (wellFormed b) (lines (jobIn b)) badJob
+unfolding wellFormed jobLines jobIn badJob
+output b = cond (wellFormed b) (jobLines (jobIn b)) badJob

@@ -17,7 +17,7 @@ ghost use Rattle.pages.specs.Sizes.{TABLE_WORDS, PIECES};
 ghost use Rattle.pages.specs.Sound.{sound};
 ghost use Rattle.pages.specs.Calls.{emptyWords};
 ghost use Rattle.query.specs.Calls.{querySound};
-ghost use Rattle.job.specs.Sizes.{WORD_BYTES, JOB_BYTES, LINE_BYTES, QUERY_HEAD, CLAUSE_COUNT, CLAUSE_WORDS};
+ghost use Rattle.job.specs.Sizes.{WORD_BYTES, JOB_BYTES, LINE_BYTES, QUERY_HEAD, CLAUSE_COUNT_AT, CLAUSE_WORDS};
 ghost use Rattle.job.specs.Output.{queryLine, badJob};
 ghost use Rattle.job.specs.Words.{wordAt, rectAt, clausesAt, pieceCount, queryCount, queryStart, wellFormed};
 ghost use Rattle.job.specs.Steps.{shapeOf, noShape, tableAt, pieceLineAt, queryLineAt};
@@ -27,17 +27,17 @@ pub const JOB_BYTES: usize = 65_536;
 
 const WORD_BYTES: usize = 4;
 
-const BYTE: u32 = 256;
+// How many values a byte has, and a word.
+const BYTE_VALUES: u32 = 256;
 
-// What a one in the high word of a clause counts for.
-const HIGH: u64 = 4_294_967_296;
+const WORD_VALUES: u64 = 4_294_967_296;
 
 const PIECE_WORDS: usize = 5;
 
-// The words of a query before its clauses, the last of which is the clause count.
+// The words of a query before its clauses, and the place of the clause count among them.
 const QUERY_HEAD: usize = 5;
 
-const CLAUSE_COUNT: usize = 4;
+const CLAUSE_COUNT_AT: usize = 4;
 
 const CLAUSE_WORDS: usize = 2;
 
@@ -49,7 +49,7 @@ pub const BAD_JOB_BYTES: usize = 8;
 // No line is longer.
 pub const LINE_BYTES: usize = 8_192;
 
-const ZERO: u8 = b'0';
+const DIGIT_ZERO: u8 = b'0';
 
 const SPACE: u8 = b' ';
 
@@ -91,7 +91,7 @@ fn ends_there(bytes: &[u8], start: usize, queries: usize) -> bool
         if bytes.len() < WORD_BYTES * (at + QUERY_HEAD) {
             return false;
         }
-        at = at + QUERY_HEAD + CLAUSE_WORDS * (word_at(bytes, at + CLAUSE_COUNT) as usize);
+        at = at + QUERY_HEAD + CLAUSE_WORDS * (word_at(bytes, at + CLAUSE_COUNT_AT) as usize);
     }
     bytes.len() == WORD_BYTES * at
 }
@@ -161,11 +161,11 @@ fn least(a: usize, b: usize) -> usize
 
 // Asks the query that begins at word `at`.
 fn ask(job: &[u8], at: usize, table: &[u32], answer: &mut [u16]) -> Answer
-    requires { ⌜ (WORD_BYTES * (at + QUERY_HEAD + CLAUSE_WORDS * wordAt (now job) (at + CLAUSE_COUNT)) ≤ length (now job)) × (TABLE_WORDS ≤ length (now table)) × T (sound (now table)) ⌝ }
-    ensures { λ r. ⌜ (r, now (answer .exit)) ≡ querySound (now (table .entry)) (rectAt (now (job .entry)) at) (clausesAt (now (job .entry)) (at + QUERY_HEAD) (wordAt (now (job .entry)) (at + CLAUSE_COUNT))) (now (answer .entry)) ⌝ }
+    requires { ⌜ (WORD_BYTES * (at + QUERY_HEAD + CLAUSE_WORDS * wordAt (now job) (at + CLAUSE_COUNT_AT)) ≤ length (now job)) × (TABLE_WORDS ≤ length (now table)) × T (sound (now table)) ⌝ }
+    ensures { λ r. ⌜ (r, now (answer .exit)) ≡ querySound (now (table .entry)) (rectAt (now (job .entry)) at) (clausesAt (now (job .entry)) (at + QUERY_HEAD) (wordAt (now (job .entry)) (at + CLAUSE_COUNT_AT))) (now (answer .entry)) ⌝ }
 {
     let mut clauses = [0u64; CLAUSES_READ];
-    let n = least(word_at(job, at + CLAUSE_COUNT) as usize, CLAUSES_READ);
+    let n = least(word_at(job, at + CLAUSE_COUNT_AT) as usize, CLAUSES_READ);
     read_clauses(job, at + QUERY_HEAD, &mut clauses[..n]);
     query::query_sound(table, rect_at(job, at), &clauses[..n], answer)
 }
@@ -200,7 +200,7 @@ pub fn answer_query(
     ensures { λ r. ⌜ (r .length ≤ LINE_BYTES) × (take (r .length) (now (out .exit)) ≡ queryLineAt (now (job .entry)) i) × (r .next ≡ queryStart (now (job .entry)) (i + 1)) ⌝ }
 {
     let a = ask(job, at, table, answer);
-    let given = word_at(job, at + CLAUSE_COUNT) as usize;
+    let given = word_at(job, at + CLAUSE_COUNT_AT) as usize;
     Answered {
         length: query_line(out, i as u32, a, answer),
         next: at + QUERY_HEAD + CLAUSE_WORDS * given,

@@ -1,20 +1,20 @@
 // Writing lines into a lent buffer.
 use crate::ANSWERED;
+use crate::DIGIT_ZERO;
 use crate::NEWLINE;
 use crate::SPACE;
-use crate::ZERO;
 ghost use mathlib.Core.Path.{_≡_};
 ghost use mathlib.Core.List.{[], _∷_, _++_};
 ghost use Prim.Native.Nat.{_+_, _*_, _≤_, _<_};
 ghost use lib.ListN.{length, take};
 ghost use Rattle.job.specs.Sizes.{FIELD_BYTES, NUMBER_BYTES};
-ghost use Rattle.job.specs.Lines.{ZERO, SPACE, ANSWERED, decimal, fields, line};
+ghost use Rattle.job.specs.Lines.{DIGIT_ZERO, SPACE, ANSWERED, decimal, fields, line};
 
 fn digit(n: u32) -> u8
     requires { ⌜ n < 10 ⌝ }
-    ensures { λ r. ⌜ r ≡ ZERO + n ⌝ }
+    ensures { λ r. ⌜ r ≡ DIGIT_ZERO + n ⌝ }
 {
-    ZERO + n as u8
+    DIGIT_ZERO + n as u8
 }
 
 // Puts n in decimal at `at`, and gives the place after it.

@@ -1,17 +1,17 @@
 // Reading a job's little-endian words.
-use crate::BYTE;
+use crate::BYTE_VALUES;
 use crate::CLAUSE_WORDS;
-use crate::HIGH;
 use crate::WORD_BYTES;
+use crate::WORD_VALUES;
 use pages::Rect;
 ghost use mathlib.Core.Path.{_≡_};
 ghost use Prim.Native.Nat.{_+_, _*_, _≤_, _<_};
 ghost use lib.ListN.{length};
-ghost use Rattle.job.specs.Sizes.{WORD_BYTES, BYTE, CLAUSE_WORDS};
+ghost use Rattle.job.specs.Sizes.{WORD_BYTES, BYTE_VALUES, CLAUSE_WORDS};
 ghost use Rattle.job.specs.Words.{wordAt, rectAt, clauseAt, clausesAt};
 
 fn wide(b: u8) -> u32
-    ensures { λ r. ⌜ (r ≡ b) × (r < BYTE) ⌝ }
+    ensures { λ r. ⌜ (r ≡ b) × (r < BYTE_VALUES) ⌝ }
 {
     b as u32
 }
@@ -22,7 +22,9 @@ pub(crate) fn word_at(bytes: &[u8], i: usize) -> u32
 {
     let at = WORD_BYTES * i;
     wide(bytes[at])
-        + BYTE * (wide(bytes[at + 1]) + BYTE * (wide(bytes[at + 2]) + BYTE * wide(bytes[at + 3])))
+        + BYTE_VALUES
+            * (wide(bytes[at + 1])
+                + BYTE_VALUES * (wide(bytes[at + 2]) + BYTE_VALUES * wide(bytes[at + 3])))
 }
 
 pub(crate) fn rect_at(bytes: &[u8], i: usize) -> Rect
@@ -43,7 +45,7 @@ fn clause_at(bytes: &[u8], i: usize) -> u64
 {
     let low = word_at(bytes, i);
     let high = word_at(bytes, i + 1);
-    low as u64 + HIGH * (high as u64)
+    low as u64 + WORD_VALUES * (high as u64)
 }
 
 // Fills `clauses` with as many clauses as it has room for, from word `at` on.

@@ -1,32 +1,16 @@
--- Tests of numbers, and sums over the numbers below n.
+-- Sums over the numbers below n, and numbers under a test.
 use Prim.Native.Nat.{ℕ, zero, suc, _+_, _*_, _≤_, _<_}
 use native.Mathlib.Omega.{arith}
 use native.Mathlib.Nat.{not-suc-le-zero}
 use native.Mathlib.Decide.{ℕ-discrete}
-use mathlib.Core.Path.{_≡_, refl, sym, _∙_}
-use mathlib.Core.Logic.{_≢_}
+use mathlib.Core.Path.{_≡_, refl, sym, ap, _∙_}
 use mathlib.Core.Bool.{Bool, true, false, cond}
 use mathlib.Core.List.{List, [], _∷_}
 use lib.ListN.{length, getD}
-use lib.Dec.{T, leb, eqb, leb→le, eqb→eq, le→leb, eqb-refl}
+use lib.Dec.{T, eqb}
+use borrow.Author.Tests.{eq-eqb, ne-eqb}
 use Rattle.pages.specs.Lists.{one, sum, sumBelow}
 use Rattle.pages.proofs.Lists.{Every}
-
-pub eqb-yes : (a b : ℕ) → a ≡ b → eqb a b ≡ true
-eqb-yes a b e = rw e (go (eqb b b) (eqb-refl b))
-  where
-    go : (x : Bool) → T x → x ≡ true
-    go true h = refl
-    go false h = absurd h
-
-pub eqb-no : (a b : ℕ) → a ≢ b → eqb a b ≡ false
-eqb-no a b n = go (eqb a b) (λ h. n (eqb→eq a b h))
-  where
-    go : (x : Bool) → (T x → ⊥) → x ≡ false
-    go true h = absurd (h tt)
-    go false h = refl
-
--- sums over the numbers below n
 
 pub below-same : (n : ℕ) (f g : ℕ → ℕ) → ((i : ℕ) → i < n → f i ≡ g i) → sumBelow n f ≡ sumBelow n g
 below-same zero f g h = refl
@@ -59,15 +43,15 @@ below-shift (suc n) f = omega (arith, below-shift n f)
 -- all but one of the terms are zero
 pub below-none : (n r : ℕ) (f : ℕ → ℕ) → n ≤ r → sumBelow n (λ i. cond (eqb i r) (f i) 0) ≡ 0
 below-none zero r f l = refl
-below-none (suc n) r f l = rw (eqb-no n r (omega arith)) (omega (arith, below-none n r f (omega arith)))
+below-none (suc n) r f l = rw (ne-eqb n r (omega arith)) (omega (arith, below-none n r f (omega arith)))
 
 pub below-one : (n r : ℕ) (f : ℕ → ℕ) → r < n → sumBelow n (λ i. cond (eqb i r) (f i) 0) ≡ f r
 below-one zero r f l = absurd (not-suc-le-zero l)
 below-one (suc n) r f l = go (ℕ-discrete n r) (below-one n r f)
   where
     go : Dec (n ≡ r) → (r < n → sumBelow n (λ i. cond (eqb i r) (f i) 0) ≡ f r) → sumBelow (suc n) (λ i. cond (eqb i r) (f i) 0) ≡ f r
-    go (yes e) k = rw (eqb-yes n r e, below-none n r f (omega arith)) (rw e (omega arith))
-    go (no e) k = rw (eqb-no n r e) (omega (arith, k (omega arith)))
+    go (yes e) k = rw (eq-eqb n r e, below-none n r f (omega arith)) (rw e (omega arith))
+    go (no e) k = rw (ne-eqb n r e) (omega (arith, k (omega arith)))
 
 -- a sum over a list, by places
 pub sum-places : {A : Type 0} (f : A → ℕ) (xs : List A) (d : A) → sum f xs ≡ sumBelow (length xs) (λ i. f (getD xs i d))
@@ -78,11 +62,36 @@ pub eqb-sym : (a b : ℕ) → eqb a b ≡ eqb b a
 eqb-sym a b = go (ℕ-discrete a b)
   where
     go : Dec (a ≡ b) → eqb a b ≡ eqb b a
-    go (yes e) = rw (eqb-yes a b e, eqb-yes b a (sym e))
-    go (no e) = rw (eqb-no a b e, eqb-no b a (λ h. e (sym h)))
+    go (yes e) = rw (eq-eqb a b e, eq-eqb b a (sym e))
+    go (no e) = rw (ne-eqb a b e, ne-eqb b a (λ h. e (sym h)))
 
 pub below-is : (n r : ℕ) → r < n → sumBelow n (λ i. one (eqb r i)) ≡ 1
 below-is n r l = below-same n (λ i. one (eqb r i)) (λ i. cond (eqb i r) 1 0) (λ i q. rw (eqb-sym r i)) ∙ below-one n r (λ i. 1) l
+
+-- a number under a test
+pub one-le : (b : Bool) → one b ≤ 1
+one-le true = omega arith
+one-le false = omega arith
+
+pub T-one : (b : Bool) → 0 < one b → T b
+T-one true h = tt
+T-one false h = absurd (not-suc-le-zero h)
+
+pub cond-le : (b : Bool) (n : ℕ) → cond b n 0 ≤ n
+cond-le true n = omega arith
+cond-le false n = omega arith
+
+pub cond-add : (b : Bool) (m n : ℕ) → cond b (m + n) 0 ≡ cond b m 0 + cond b n 0
+cond-add true m n = refl
+cond-add false m n = refl
+
+pub is-times : (b : Bool) (c : ℕ) → cond b c 0 ≡ one b * c
+is-times true c = omega arith
+is-times false c = omega arith
+
+-- a weight at one place, as a sum
+pub below-chosen : (n : ℕ) (G : ℕ → ℕ) (r : ℕ) → r < n → G r ≡ sumBelow n (λ q. one (eqb r q) * G q)
+below-chosen n G r l = sym (below-one n r G l) ∙ below-same n (λ q. cond (eqb q r) (G q) 0) (λ q. one (eqb r q) * G q) (λ q ql. ap (λ b. cond b (G q) 0) (eqb-sym q r) ∙ is-times (eqb r q) (G q))
 
 pub sum-nothing : {A : Type 0} (f : A → ℕ) (xs : List A) → Every (λ x. f x ≡ 0) xs → sum f xs ≡ 0
 sum-nothing f [] h = refl
@@ -95,17 +104,3 @@ below-at (suc n) f i l = go (ℕ-discrete i n) (below-at n f i)
     go : Dec (i ≡ n) → (i < n → f i ≤ sumBelow n f) → f i ≤ sumBelow (suc n) f
     go (yes e) k = rw e (omega arith)
     go (no e) k = omega (arith, k (omega arith))
-
-pub leb-is : (a b : ℕ) → a ≤ b → leb a b ≡ true
-leb-is a b h = go (leb a b) (le→leb a b h)
-  where
-    go : (x : Bool) → T x → x ≡ true
-    go true k = refl
-    go false k = absurd k
-
-pub leb-not : (a b : ℕ) → b < a → leb a b ≡ false
-leb-not a b h = go (leb a b) (λ k. leb→le a b k)
-  where
-    go : (x : Bool) → (T x → a ≤ b) → x ≡ false
-    go true k = absurd (omega (arith, k tt))
-    go false k = refl

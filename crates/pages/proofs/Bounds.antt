@@ -11,7 +11,7 @@ use Rattle.pages.specs.declared.Entry.{Entry}
 use Rattle.pages.specs.Rectangles.{widen, widenAll, bounds}
 use Rattle.pages.specs.Readers.{entryIn, entriesIn}
 
-widen-last : (r : Rect) (es : List Entry) (e : Entry) → widenAll r (es ++ (e ∷ [])) ≡ widen (widenAll r es) (e .rect)
+pub widen-last : (r : Rect) (es : List Entry) (e : Entry) → widenAll r (es ++ (e ∷ [])) ≡ widen (widenAll r es) (e .rect)
 unfolding widenAll
 widen-last r [] e = refl
 widen-last r (x ∷ es) e = widen-last (widen r (x .rect)) es e
@@ -26,15 +26,18 @@ unfolding entriesIn
 length-entries w zero = refl
 length-entries w (suc n) = omega (arith, length-append (entriesIn w n) (entryIn w n ∷ []), length-entries w n)
 
+pub entries-more : (w : List ℕ) (i : ℕ) → entriesIn w (i + 1) ≡ entriesIn w i ++ (entryIn w i ∷ [])
+unfolding entriesIn
+entries-more w i = rw (add-one i)
+
 pub bounds-first : (w : List ℕ) (e : Entry) → e ≡ entryIn w 0 → e .rect ≡ bounds (entriesIn w 1)
 unfolding bounds entriesIn widenAll
 bounds-first w e h = ap (λ x. x .rect) h
 
 pub bounds-more : (w : List ℕ) (i : ℕ) (b r : Rect) (e : Entry) → 1 ≤ i → b ≡ bounds (entriesIn w i) → e ≡ entryIn w i → r ≡ widen b (e .rect)
     → r ≡ bounds (entriesIn w (i + 1))
-unfolding entriesIn
 bounds-more w i b r e l p q s =
-    rw add-one (s ∙ ap (λ x. widen x (e .rect)) p ∙ ap (λ x. widen (bounds (entriesIn w i)) (x .rect)) q
+    rw entries-more (s ∙ ap (λ x. widen x (e .rect)) p ∙ ap (λ x. widen (bounds (entriesIn w i)) (x .rect)) q
     ∙ sym (bounds-last (entriesIn w i) (entryIn w i) (omega (arith, length-entries w i))))
 
 pub bounds-done : (w : List ℕ) (i n : ℕ) (b : Rect) → b ≡ bounds (entriesIn w i) → i ≤ n → n ≤ i → b ≡ bounds (entriesIn w n)

@@ -7,34 +7,37 @@ use mathlib.Core.Logic.{_≢_}
 use mathlib.Core.Bool.{Bool, true, false, cond}
 use mathlib.Core.List.{List, [], _∷_}
 use lib.ListN.{length}
-use lib.Dec.{T, eqb}
+use lib.Dec.{eqb}
+use borrow.Author.Tests.{eq-eqb, ne-eqb}
 use Rattle.pages.specs.declared.Entry.{Entry}
 use Rattle.pages.specs.Sizes.{PIECES, PAGES}
 use Rattle.pages.specs.Lists.{one, sum, sumBelow}
-use Rattle.pages.specs.Rectangles.{valid, bounds}
 use Rattle.pages.specs.Layout.{Page, Table, noPage, page}
-use Rattle.pages.specs.Sound.{leaf, childEntries, pieceEntries, is, named, stored, pieces, fewest}
+use Rattle.pages.specs.Sound.{leaf, childEntries, pieceEntries, is, stored, pieces, fewest}
 use Rattle.pages.proofs.Lists.{Every, at-every, every-map, sum-same, sum-length, sum-below}
-use Rattle.pages.proofs.Below.{eqb-yes, eqb-no, below-same, below-le, below-add, below-const, below-times, below-swap, below-one, sum-places, below-is, sum-nothing, below-at}
-use Rattle.pages.proofs.Facts.{Facts}
-
-pub is-not : (q : ℕ) (e : Entry) → e .r ≢ q → is q e ≡ 0
-is-not q e n = rw (eqb-no (e .r) q n)
+use Rattle.pages.proofs.Below.{below-same, below-le, below-add, below-const, below-times, below-swap, below-one, sum-places, below-is, sum-nothing, below-at}
+use Rattle.pages.proofs.Facts.{Limited, Facts, relimit}
+use Rattle.pages.proofs.Entries.{is-not, above-children}
 
 -- what soundness says, without the limits on k and the levels
-pub record Shape (t : Table) : Type 0 where
-  pub top : t .root < length (t .pages)
-  pub levels : (p : ℕ) → p < length (t .pages) → page t p .level ≤ 5
-  pub lower : (p : ℕ) → p < length (t .pages) → Every (λ e. page t p .level ≡ suc (page t (e .r) .level)) (childEntries (page t p))
-  pub once : (q : ℕ) → q < length (t .pages) → named t q ≡ cond (eqb q (t .root)) 0 1
-  pub inside : (p : ℕ) → p < length (t .pages) → Every (λ e. e .r < length (t .pages)) (childEntries (page t p))
-  pub enough : (p : ℕ) → p < length (t .pages) → fewest t p ≤ length (page t p .entries)
-  pub eight : (p : ℕ) → p < length (t .pages) → length (page t p .entries) ≤ 8
-  pub exact : (p : ℕ) → p < length (t .pages) → Every (λ e. e .rect ≡ bounds (page t (e .r) .entries)) (childEntries (page t p))
-  pub valids : (p : ℕ) → p < length (t .pages) → Every (λ e. T (valid (e .rect))) (pieceEntries (page t p))
-  pub numbers : (p : ℕ) → p < length (t .pages) → Every (λ e. e .r < PIECES) (pieceEntries (page t p))
-  pub distinct : (c : ℕ) → c < PIECES → stored t c ≤ 1
-  pub counted : t .count ≡ pieces t
+abbrev pub Shape : Table → Type 0
+Shape t = Limited t (length (t .pages)) 5
+
+pub facts-shape : (t : Table) → Facts t → Shape t
+facts-shape t F = relimit t _ _ (length (t .pages)) 5 (omega arith) (λ p l. omega (arith, F .levels p l)) F
+
+-- entries counted by their r, where all are below n
+numbers-sum : (n : ℕ) (es : List Entry) → Every (λ e. e .r < n) es → sumBelow n (λ c. sum (is c) es) ≡ length es
+numbers-sum n es h =
+    sum-below is n es ∙ (sum-same _ (λ e. 1) es (every-map (λ e. e .r < n) _ (λ e l. below-is n (e .r) l) es h) ∙ sum-length es)
+
+-- the piece numbers counted one by one, where all are below n
+pub stored-sum : (t : Table) (n : ℕ) → ((p : ℕ) → p < length (t .pages) → Every (λ e. e .r < n) (pieceEntries (page t p))) → sumBelow n (stored t) ≡ pieces t
+stored-sum t n g =
+    sum-below (λ c p. sum (is c) (pieceEntries p)) n (t .pages)
+    ∙ sum-same (λ p. sumBelow n (λ c. sum (is c) (pieceEntries p))) (λ p. length (pieceEntries p)) (t .pages)
+    (at-every (λ p. sumBelow n (λ c. sum (is c) (pieceEntries p)) ≡ length (pieceEntries p)) (t .pages) noPage
+    (λ p l. numbers-sum n (pieceEntries (page t p)) (g p l)))
 
 -- the entries of the pages at a level
 abbrev pub heldAt : ℕ → Page → ℕ
@@ -49,9 +52,6 @@ other t i q = cond (eqb q (t .root)) 0 (one (eqb (page t q .level) i))
 
 abbrev pub others : Table → ℕ → ℕ
 others t i = sumBelow (length (t .pages)) (other t i)
-
-above-children : (p : Page) (i : ℕ) → p .level ≡ suc i → childEntries p ≡ p .entries
-above-children p i e = rw (eqb-no (p .level) 0 (omega arith))
 
 sum-children : (p : Page) (q i : ℕ) → p .level ≡ suc i → sum (is q) (childEntries p) ≡ sum (is q) (p .entries)
 sum-children p q i e = ap (sum (is q)) (above-children p i e)
@@ -68,10 +68,10 @@ module _ (t : Table) (s : Shape t) where
     where
       go : Dec (page t p .level ≡ suc i) → Dec (page t q .level ≡ i)
           → cond (eqb (page t p .level) (suc i)) (sum (is q) (page t p .entries)) 0 ≡ cond (eqb (page t q .level) i) (sum (is q) (childEntries (page t p))) 0
-      go (yes a) (yes b) = rw (eqb-yes _ _ a, eqb-yes _ _ b) (sym (sum-children (page t p) q i a))
-      go (yes a) (no b) = rw (eqb-yes _ _ a, eqb-no _ _ b) (sym (sum-children (page t p) q i a) ∙ stray p q l (omega arith))
-      go (no a) (yes b) = rw (eqb-no _ _ a, eqb-yes _ _ b) (sym (stray p q l (omega arith)))
-      go (no a) (no b) = rw (eqb-no _ _ a, eqb-no _ _ b)
+      go (yes a) (yes b) = rw (eq-eqb _ _ a, eq-eqb _ _ b) (sym (sum-children (page t p) q i a))
+      go (yes a) (no b) = rw (eq-eqb _ _ a, ne-eqb _ _ b) (sym (sum-children (page t p) q i a) ∙ stray p q l (omega arith))
+      go (no a) (yes b) = rw (ne-eqb _ _ a, eq-eqb _ _ b) (sym (stray p q l (omega arith)))
+      go (no a) (no b) = rw (ne-eqb _ _ a, ne-eqb _ _ b)
 
   sum-out : (b : Bool) (f : Page → ℕ) (ps : List Page) → sum (λ p. cond b (f p) 0) ps ≡ cond b (sum f ps) 0
   sum-out true f ps = refl
@@ -100,10 +100,8 @@ module _ (t : Table) (s : Shape t) where
       go : Dec (page t p .level ≡ suc i) → sumBelow (length (t .pages)) (λ q. cond (eqb (page t p .level) (suc i)) (sum (is q) (page t p .entries)) 0) ≡ heldAt (suc i) (page t p)
       go (yes a) =
           let ins : Every (λ e. e .r < length (t .pages)) (page t p .entries) = rw (above-children (page t p) i a) at (s .inside p l) in
-          rw (eqb-yes _ _ a) (sum-below is (length (t .pages)) (page t p .entries)
-          ∙ (sum-same _ (λ e. 1) (page t p .entries) (every-map (λ e. e .r < length (t .pages)) _ (λ e h. below-is (length (t .pages)) (e .r) h) (page t p .entries) ins)
-          ∙ sum-length (page t p .entries)))
-      go (no a) = rw (eqb-no _ _ a) (omega (arith, below-const (length (t .pages)) 0))
+          rw (eq-eqb _ _ a) (numbers-sum (length (t .pages)) (page t p .entries) ins)
+      go (no a) = rw (ne-eqb _ _ a) (omega (arith, below-const (length (t .pages)) 0))
 
   -- the entries of a level are the pages of the level below, without the root
   pub others-held : (i : ℕ) → others t i ≡ held t (suc i)
@@ -170,7 +168,7 @@ module _ (t : Table) (s : Shape t) where
 
   -- no page is at level 6
   pub none-six : held t 6 ≡ 0
-  none-six = sum-nothing (heldAt 6) (t .pages) (at-every (λ p. heldAt 6 p ≡ 0) (t .pages) noPage (λ p l. rw (eqb-no (page t p .level) 6 (omega (arith, s .levels p l)))))
+  none-six = sum-nothing (heldAt 6) (t .pages) (at-every (λ p. heldAt 6 p ≡ 0) (t .pages) noPage (λ p l. rw (ne-eqb (page t p .level) 6 (omega (arith, s .levels p l)))))
 
   length-pieces : (p : Page) → length (pieceEntries p) ≡ heldAt 0 p
   length-pieces p = go (leaf p)
@@ -184,18 +182,10 @@ module _ (t : Table) (s : Shape t) where
   pieces-held = sum-same _ (heldAt 0) (t .pages) (at-every (λ p. length (pieceEntries p) ≡ heldAt 0 p) (t .pages) noPage (λ p l. length-pieces (page t p)))
 
   few-below : (n : ℕ) → ((c : ℕ) → c < n → stored t c ≤ 1) → ((p : ℕ) → p < length (t .pages) → Every (λ e. e .r < n) (pieceEntries (page t p))) → pieces t ≤ n
-  few-below n f g =
-      let a = below-le n (stored t) (λ c. 1) f in
-      let b = below-const n 1 in
-      let c = sum-below (λ c p. sum (is c) (pieceEntries p)) n (t .pages) in
-      let d = sum-same (λ p. sumBelow n (λ c. sum (is c) (pieceEntries p))) (λ p. length (pieceEntries p)) (t .pages)
-      (at-every (λ p. sumBelow n (λ c. sum (is c) (pieceEntries p)) ≡ length (pieceEntries p)) (t .pages) noPage
-      (λ p l. sum-below is n (pieceEntries (page t p)) ∙ (sum-same _ (λ e. 1) (pieceEntries (page t p))
-      (every-map (λ e. e .r < n) _ (λ e h. below-is n (e .r) h) (pieceEntries (page t p)) (g p l)) ∙ sum-length (pieceEntries (page t p))))) in
-      omega (arith, a, b, c, d)
+  few-below n f g = omega (arith, below-le n (stored t) (λ c. 1) f, below-const n 1, stored-sum t n g)
 
   pub pieces-few : pieces t ≤ PIECES
-  pieces-few = few-below PIECES (s .distinct) (λ p l. every-map (λ e. e .r < PIECES) (λ e. e .r < PIECES) (λ e h. omega arith) (pieceEntries (page t p)) (s .numbers p l))
+  pieces-few = few-below PIECES (s .distinct) (s .numbers)
 
 -- the arithmetic of it: h is the level of the root, N the pages but the root and E the entries, by level
 conclude : (h k : ℕ) → h ≤ 5 → (N E : ℕ → ℕ) → ((i : ℕ) → N i ≡ E (suc i)) → ((i : ℕ) → 4 * N i + cond (eqb h i) (cond (eqb h 0) 0 2) 0 ≤ E i)
@@ -213,30 +203,19 @@ pub suffice : (t : Table) → Shape t → (length (t .pages) ≤ PAGES) × (page
 suffice t s = conclude (page t (t .root) .level) (length (t .pages)) (s .levels (t .root) (s .top)) (others t) (held t) (others-held t s) (others-least t s) (others-most t s)
     (omega (arith, pieces-few t s, pieces-held t s)) (none-six t s) (others-all t s)
 
+-- a sound table counts at most 1,024 pieces
+pub count-few : (t : Table) → Facts t → t .count ≤ PIECES
+count-few t F = omega (arith, F .counted, pieces-few t (facts-shape t F))
+
 four : (t : Table) → Shape t → (p : ℕ) → p < length (t .pages) → page t p .level ≤ 4
 four t s p l = go (ℕ-discrete p (t .root)) (ℕ-discrete (page t p .level) 5)
   where
     go : Dec (p ≡ t .root) → Dec (page t p .level ≡ 5) → page t p .level ≤ 4
     go (yes e) d = rw e (suffice t s .1)
     go (no e) (yes d) =
-        let a : other t 5 p ≡ 1 = rw (eqb-no p (t .root) e, eqb-yes (page t p .level) 5 d) in
+        let a : other t 5 p ≡ 1 = rw (ne-eqb p (t .root) e, eq-eqb (page t p .level) 5 d) in
         absurd (omega (arith, a, below-at (length (t .pages)) (other t 5) p l, others-held t s 5, none-six t s))
     go (no e) (no d) = omega (arith, s .levels p l)
 
 pub shape-facts : (t : Table) → Shape t → Facts t
-shape-facts t s = record {
-  some = omega (arith, s .top);
-  most = suffice t s .0;
-  top = s .top;
-  levels = four t s;
-  lower = s .lower;
-  once = s .once;
-  inside = s .inside;
-  enough = s .enough;
-  eight = s .eight;
-  exact = s .exact;
-  valids = s .valids;
-  numbers = s .numbers;
-  distinct = s .distinct;
-  counted = s .counted;
-}
+shape-facts t s = relimit t _ _ PAGES 4 (suffice t s .0) (four t s) s

@@ -1,5 +1,6 @@
 -- From the computed test of soundness to facts, and back.
 use Prim.Native.Nat.{ℕ, suc, _≤_, _<_}
+use native.Mathlib.Omega.{arith}
 use mathlib.Core.Path.{_≡_}
 use mathlib.Core.Bool.{Bool, cond}
 use mathlib.Core.List.{List, [], _∷_, _++_}
@@ -14,11 +15,11 @@ use Rattle.pages.specs.Layout.{Page, Table, noPage, page}
 use Rattle.pages.specs.Sound.{childEntries, pieceEntries, everyChild, everyPiece, named, stored, pieces, soundRoot, soundLevels, soundRefs, fewest, soundSizes, soundBounds, soundPieces, soundTable}
 use Rattle.pages.proofs.Lists.{holds, all-of, all-below, below-all, Every, every, every→all, every-at, at-every}
 
-pub record Facts (t : Table) : Type 0 where
-  pub some : 1 ≤ length (t .pages)
-  pub most : length (t .pages) ≤ PAGES
+-- what soundness says, with k as the most pages and h as the highest level
+pub record Limited (t : Table) (k h : ℕ) : Type 0 where
+  pub most : length (t .pages) ≤ k
   pub top : t .root < length (t .pages)
-  pub levels : (p : ℕ) → p < length (t .pages) → page t p .level ≤ 4
+  pub levels : (p : ℕ) → p < length (t .pages) → page t p .level ≤ h
   pub lower : (p : ℕ) → p < length (t .pages) → Every (λ e. page t p .level ≡ suc (page t (e .r) .level)) (childEntries (page t p))
   pub once : (q : ℕ) → q < length (t .pages) → named t q ≡ cond (eqb q (t .root)) 0 1
   pub inside : (p : ℕ) → p < length (t .pages) → Every (λ e. e .r < length (t .pages)) (childEntries (page t p))
@@ -29,6 +30,27 @@ pub record Facts (t : Table) : Type 0 where
   pub numbers : (p : ℕ) → p < length (t .pages) → Every (λ e. e .r < PIECES) (pieceEntries (page t p))
   pub distinct : (c : ℕ) → c < PIECES → stored t c ≤ 1
   pub counted : t .count ≡ pieces t
+
+abbrev pub Facts : Table → Type 0
+Facts t = Limited t PAGES 4
+
+-- the same with other limits
+pub relimit : (t : Table) (k h m l : ℕ) → length (t .pages) ≤ m → ((p : ℕ) → p < length (t .pages) → page t p .level ≤ l) → Limited t k h → Limited t m l
+relimit t k h m l most levels F = record {
+  most = most;
+  top = F .top;
+  levels = levels;
+  lower = F .lower;
+  once = F .once;
+  inside = F .inside;
+  enough = F .enough;
+  eight = F .eight;
+  exact = F .exact;
+  valids = F .valids;
+  numbers = F .numbers;
+  distinct = F .distinct;
+  counted = F .counted;
+}
 
 pub same-rect : (a b : Rect) → T (sameRect a b) → a ≡ b
 unfolding sameRect
@@ -61,9 +83,8 @@ tests t = soundRoot t ++ (soundLevels t ++ (soundRefs t ++ (soundSizes t ++ (sou
 pub facts : (t : Table) → T (soundTable t) → Facts t
 unfolding soundTable
 facts t h =
-    let (a1, (a2, (a3, (b1, (b2, (c1, (c2, (d1, (d2, (e1, (f1, (f2, (f3, (f4, _)))))))))))))) = holds (tests t) h in
+    let (_, (a2, (a3, (b1, (b2, (c1, (c2, (d1, (d2, (e1, (f1, (f2, (f3, (f4, _)))))))))))))) = holds (tests t) h in
     record {
-      some = leb→le _ _ a1;
       most = leb→le _ _ a2;
       top = ltb→lt _ _ a3;
       levels = λ p l. every-at (λ pg. pg .level ≤ 4) (t .pages) noPage (every _ (λ pg. leb (pg .level) 4) (λ pg k. leb→le _ _ k) (t .pages) b1) p l;
@@ -100,7 +121,7 @@ eq→same a b e = rw e (rect-same b)
 pub sound-of : (t : Table) → Facts t → T (soundTable t)
 unfolding soundTable
 sound-of t f = all-of (tests t) (
-  le→leb _ _ (f .some),
+  le→leb 1 (length (t .pages)) (omega (arith, f .top)),
   (
     le→leb _ _ (f .most),
     (

@@ -1,14 +1,33 @@
--- Laws of sums and tests over lists.
+-- Laws of tests, and of sums and tests over lists.
 use Prim.Native.Nat.{ℕ, zero, suc, _+_, _≤_, _<_}
 use native.Mathlib.Omega.{arith}
 use native.Mathlib.Nat.{le-of-suc-le-suc, not-suc-le-zero}
 use native.Mathlib.Decide.{ℕ-discrete}
-use mathlib.Core.Path.{_≡_, refl, sym}
-use mathlib.Core.Bool.{Bool, true, false, _&&_}
+use mathlib.Core.Path.{_≡_, refl, sym, _∙_}
+use mathlib.Core.Bool.{Bool, true, false, _&&_, cond, false≢true}
 use mathlib.Core.List.{List, [], _∷_, _++_}
 use lib.ListN.{length, getD, take, drop, set}
 use lib.Dec.{T}
 use Rattle.pages.specs.Lists.{allOf, sum, all, allBelow, sumBelow}
+
+-- a test by its value, and by what it says
+pub not-both : (b : Bool) → b ≡ true → b ≡ false → ⊥
+not-both b x y = false≢true (sym y ∙ x)
+
+pub true-T : (b : Bool) → b ≡ true → T b
+true-T true e = tt
+true-T false e = absurd (false≢true e)
+
+pub T-true : (b : Bool) → T b → b ≡ true
+T-true true h = refl
+T-true false h = absurd h
+
+pub false-T : (b : Bool) → b ≡ false → T b → ⊥
+false-T b e h = not-both b (T-true b h) e
+
+pub T-false : (b : Bool) → (T b → ⊥) → b ≡ false
+T-false true n = absurd (n tt)
+T-false false n = refl
 
 pub both : (a b : Bool) → T (a && b) → T a × T b
 both true b h = (tt, h)
@@ -132,15 +151,19 @@ module _ {A : Type 0} where
   sum-length [] = refl
   sum-length (x ∷ xs) = omega (arith, sum-length xs)
 
+  pub sum-zeros : (xs : List A) → sum (λ x. 0) xs ≡ 0
+  sum-zeros [] = refl
+  sum-zeros (x ∷ xs) = omega (arith, sum-zeros xs)
+
+  pub sum-add : (f g : A → ℕ) (xs : List A) → sum (λ x. f x + g x) xs ≡ sum f xs + sum g xs
+  sum-add f g [] = refl
+  sum-add f g (x ∷ xs) = omega (arith, sum-add f g xs)
+
+  pub sum-cond : (f : A → ℕ) (b : Bool) (xs : List A) → sum f (cond b xs []) ≡ cond b (sum f xs) 0
+  sum-cond f true xs = refl
+  sum-cond f false xs = refl
+
   -- the order of two sums may be changed
   pub sum-below : (f : ℕ → A → ℕ) (n : ℕ) (xs : List A) → sumBelow n (λ i. sum (f i) xs) ≡ sum (λ x. sumBelow n (λ i. f i x)) xs
   sum-below f zero xs = sym (sum-zeros xs)
-    where
-      sum-zeros : (ys : List A) → sum (λ y. 0) ys ≡ 0
-      sum-zeros [] = refl
-      sum-zeros (y ∷ ys) = omega (arith, sum-zeros ys)
   sum-below f (suc n) xs = omega (arith, sum-below f n xs, sum-add (f n) (λ x. sumBelow n (λ i. f i x)) xs)
-    where
-      sum-add : (g h : A → ℕ) (ys : List A) → sum (λ y. g y + h y) ys ≡ sum g ys + sum h ys
-      sum-add g h [] = refl
-      sum-add g h (y ∷ ys) = omega (arith, sum-add g h ys)

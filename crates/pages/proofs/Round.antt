@@ -4,16 +4,15 @@ use native.Mathlib.Omega.{arith}
 use native.Mathlib.Nat.{le-of-suc-le-suc, not-suc-le-zero, mul-zero}
 use mathlib.Core.Path.{_≡_, refl, sym, ap, _∙_}
 use mathlib.Core.Logic.{_≢_}
-use mathlib.Core.Bool.{_&&_}
 use mathlib.Core.List.{List, [], _∷_, _++_, append-assoc}
 use lib.ListN.{length, getD, take, drop, replicate, length-append, length-take, length-drop, take-append-drop, drop-of-length-le, replicate-append-replicate}
-use lib.Seq.{take-all, take-at, drop-drop, drop-append-add, drop-append-seam, drop-cons, take-append-add}
+use lib.Seq.{take-at, drop-drop, drop-append-add, drop-append-seam, drop-cons, take-append-add}
 use lib.Dec.{T, eqb, eqb→eq}
 use Rattle.pages.specs.declared.Entry.{Entry}
 use Rattle.pages.specs.Sizes.{PAGE_HEAD, FANOUT, ENTRY_WORDS, PAGE_WORDS, TABLE_HEAD, PAGES, TABLE_WORDS}
 use Rattle.pages.specs.Lists.{allOf}
 use Rattle.pages.specs.Layout.{Page, Table, noEntry, noPage, page, pack, unpack, encodeEntry, encodePage, encode, decodeEntry, decodePage, decode, pageWords}
-use Rattle.pages.specs.Sound.{soundTable, zeros, soundBlank, sound}
+use Rattle.pages.specs.Sound.{soundTable, zeros, soundBlank}
 use Rattle.pages.proofs.Lists.{both, holds, all-below}
 use Rattle.pages.proofs.Facts.{Facts, facts}
 
@@ -110,6 +109,14 @@ pub size-page : (p : Page) → length (encodePage p) ≡ PAGE_WORDS
 unfolding encodePage
 size-page p = omega (arith, length-pack encodeEntry noEntry ENTRY_WORDS size-entry FANOUT (p .entries))
 
+pub level-word : (p : Page) → getD (encodePage p) 0 0 ≡ p .level
+unfolding encodePage
+level-word p = refl
+
+pub count-word : (p : Page) → getD (encodePage p) 1 0 ≡ length (p .entries)
+unfolding encodePage
+count-word p = refl
+
 pub blank-entry : encodeEntry noEntry ≡ replicate 5 0
 unfolding encodeEntry
 blank-entry = refl
@@ -186,10 +193,3 @@ encode-page t u p l h = recell encodePage noPage PAGE_WORDS size-page PAGES (t .
 pub words-of-page : (t : Table) (p : ℕ) → p < PAGES → pageWords (encode t) p ≡ encodePage (page t p)
 unfolding encode
 words-of-page t p l = rw (← drop-drop) (cell encodePage noPage PAGE_WORDS size-page PAGES (t .pages) p l)
-
-pub sound-words : (w : List ℕ) → length w ≡ TABLE_WORDS → T (sound w) → encode (decode w) ≡ w
-unfolding sound
-sound-words w s h =
-    let e : take TABLE_WORDS w ≡ w = take-all TABLE_WORDS w (omega arith) in
-    let h′ : T (soundTable (decode w) && allOf (soundBlank w)) = rw e at h in
-    encode-decode w s (both (soundTable (decode w)) _ h′ .0) (both (soundTable (decode w)) _ h′ .1)

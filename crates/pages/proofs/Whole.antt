@@ -15,7 +15,7 @@ use Rattle.pages.specs.Layout.{Page, Table, tableOf, noEntry, noPage, pa
 use Rattle.pages.specs.Sound.{soundTable, zeros, soundBlank, sound}
 use Rattle.pages.proofs.Lists.{both, and, all-of, below-all, Every, at-every}
 use Rattle.pages.proofs.Facts.{Facts, facts, sound-of}
-use Rattle.pages.proofs.Round.{pack-blank, size-entry, size-page, blank-entry, blank-page, length-encode, encode-decode, words-of-page}
+use Rattle.pages.proofs.Round.{pack-blank, size-entry, size-page, count-word, blank-entry, blank-page, length-encode, encode-decode, words-of-page}
 
 zeros-replicate : (n : ℕ) → T (zeros (replicate n 0))
 zeros-replicate zero = tt
@@ -39,7 +39,7 @@ module _ {A : Type 0} (f : A → List ℕ) (b : A) (w : ℕ) (size : (x : A) →
       let e : w * suc (length xs) ≡ length (f x) + w * length xs = omega (arith, size x) in
       rw (e, drop-append-add) (pack-rest n xs (le-of-suc-le-suc l))
 
-entry-back : (e : Entry) → decodeEntry (encodeEntry e) ≡ e
+pub entry-back : (e : Entry) → decodeEntry (encodeEntry e) ≡ e
 unfolding decodeEntry encodeEntry
 entry-back e = refl
 
@@ -63,10 +63,6 @@ decode-encode t F = decode-encode-of t (F .most) (F .eight)
 page-rest : (p : Page) → length (p .entries) ≤ 8 → T (zeros (drop (PAGE_HEAD + ENTRY_WORDS * length (p .entries)) (encodePage p)))
 unfolding encodePage
 page-rest p l = rw (← drop-drop) (pack-rest encodeEntry noEntry ENTRY_WORDS size-entry decodeEntry blank-entry FANOUT (p .entries) l)
-
-count-word : (p : Page) → getD (encodePage p) 1 0 ≡ length (p .entries)
-unfolding encodePage
-count-word p = refl
 
 blank-encode : (t : Table) → Facts t → T (allOf (soundBlank (encode t)))
 unfolding soundBlank encode

@@ -12,9 +12,10 @@ use Rattle.pages.specs.declared.Entry.{Entry}
 use Rattle.pages.specs.Sizes.{FANOUT, PAGES}
 use Rattle.pages.specs.Layout.{Page, pageOf, pageAt, encodePage, pageWords}
 use Rattle.pages.specs.Readers.{entriesIn}
+use Rattle.pages.proofs.Round.{level-word, count-word}
 use Rattle.placing.specs.Place.{ordered, STAY, Step, stepOf, fill}
 use Rattle.placing.specs.Steps.{appended, putPage, splitInto, Written, writtenOf, addTo}
-use Rattle.placing.proofs.PageWords.{level-word, count-word, all-in, appended-is}
+use Rattle.placing.proofs.PageWords.{all-in, appended-is}
 use Rattle.placing.proofs.TableWords.{tabled, pages-word, page-words, page-set, page-append}
 
 -- the words of a step

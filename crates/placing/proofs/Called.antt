@@ -18,18 +18,18 @@ use Rattle.placing.specs.Calls.{placeRefusal, placedWords, placeSound}
 use Rattle.placing.proofs.Joined.{place-keeps}
 
 -- the first refusal whose condition holds: a the rectangle is valid, b the number is too large, d the number does not stand
-abbrev first : Bool → Bool → Bool → ℕ
+abbrev pub first : Bool → Bool → Bool → ℕ
 first a b d = cond (not a) RECTANGLE_NOT_VALID (cond b NUMBER_TOO_LARGE (cond d ACCEPTED ALREADY_STANDING))
 
-refusal-open : (w : List ℕ) (n : ℕ) (r : Rect) → placeRefusal w n r ≡ first (valid r) (leb PIECES n) (eqb (stored (tableIn w) n) 0)
+pub refusal-open : (w : List ℕ) (n : ℕ) (r : Rect) → placeRefusal w n r ≡ first (valid r) (leb PIECES n) (eqb (stored (tableIn w) n) 0)
 unfolding placeRefusal
 refusal-open w n r = refl
 
 -- the answer, where the refusal is m; b: it is none
-abbrev answered : List ℕ → ℕ → Rect → ℕ → Bool → ℕ × List ℕ
+abbrev pub answered : List ℕ → ℕ → Rect → ℕ → Bool → ℕ × List ℕ
 answered w n r m b = cond b (ACCEPTED, placedWords w n r) (m, w)
 
-sound-open : (w : List ℕ) (n : ℕ) (r : Rect) → placeSound w n r ≡ answered w n r (placeRefusal w n r) (eqb (placeRefusal w n r) ACCEPTED)
+pub sound-open : (w : List ℕ) (n : ℕ) (r : Rect) → placeSound w n r ≡ answered w n r (placeRefusal w n r) (eqb (placeRefusal w n r) ACCEPTED)
 unfolding placeSound
 sound-open w n r = refl
 

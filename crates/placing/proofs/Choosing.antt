@@ -3,21 +3,19 @@ use Prim.Native.Nat.{ℕ, suc, _+_, _-_, _*_, _^_, _≤_, _<_, max}
 use native.Mathlib.Omega.{arith}
 use native.Mathlib.Nat.{le-of-lt, lt-of-le-of-lt, mul-le-mul, mul-le-mul-left, mul-lt-mul-of-pos-right}
 use native.Mathlib.Decide.{decLt}
-use native.Mathlib.Numerals.{add-one}
 use mathlib.Core.Path.{_≡_, refl, sym, ap, subst⁻¹, _∙_}
 use mathlib.Core.Bool.{Bool, true, false, _||_, cond}
 use mathlib.Core.List.{List, [], _∷_, _++_}
 use lib.ListN.{length}
 use lib.Pow.{pow-pos, pow-add}
 use lib.Dec.{ltb}
-use borrow.Author.Tests.{le-ltb}
+use borrow.Author.Tests.{le-ltb, eq-eqb, ne-eqb}
 use Rattle.pages.specs.declared.Rect.{Rect}
 use Rattle.pages.specs.declared.Entry.{Entry}
 use Rattle.pages.specs.Sizes.{FANOUT}
 use Rattle.pages.specs.Rectangles.{rectOf, widen}
 use Rattle.pages.specs.Readers.{entryIn, entriesIn}
-use Rattle.pages.proofs.Below.{eqb-yes, eqb-no}
-use Rattle.pages.proofs.Bounds.{length-entries}
+use Rattle.pages.proofs.Bounds.{length-entries, entries-more}
 use Rattle.placing.specs.declared.choice.Best.{Best}
 use Rattle.placing.specs.Place.{area, growth, before, scan, choose}
 use Rattle.placing.specs.Parts.{bestOf, less, better}
@@ -46,10 +44,10 @@ pub cost-fits : (r new w : Rect) (old grown : ℕ) → old ≡ area r → w ≡ 
 cost-fits r new w old grown p q s = rw (s, q, p) (area-widen r new)
 
 pub less-tie : (a b : Best) → a .growth ≡ b .growth → ltb (a .area) (b .area) ≡ less a b
-less-tie a b h = rw (le-ltb (a .growth) (b .growth) (omega arith), eqb-yes (a .growth) (b .growth) h)
+less-tie a b h = rw (le-ltb (a .growth) (b .growth) (omega arith), eq-eqb (a .growth) (b .growth) h)
 
 pub less-other : (a b : Best) → (a .growth ≡ b .growth → ⊥) → ltb (a .growth) (b .growth) ≡ less a b
-less-other a b h = rw (eqb-no (a .growth) (b .growth) h) (go (ltb (a .growth) (b .growth)))
+less-other a b h = rw (ne-eqb (a .growth) (b .growth) h) (go (ltb (a .growth) (b .growth)))
   where
     go : (t : Bool) → t ≡ t || false
     go true = refl
@@ -103,10 +101,6 @@ best-last new [] e h = absurd (omega arith)
 best-last new (x ∷ es) e h =
     let n : 1 + length es ≡ suc (length es) = omega arith in
     rw (← n) (pick-last new (bestOf new (x .rect) 0) 1 es e)
-
-entries-more : (w : List ℕ) (i : ℕ) → entriesIn w (i + 1) ≡ entriesIn w i ++ (entryIn w i ∷ [])
-unfolding entriesIn
-entries-more w i = rw (add-one i)
 
 pub best-first : (new : Rect) (w : List ℕ) (e : Entry) (b : Best) → e ≡ entryIn w 0 → b ≡ bestOf new (e .rect) 0 → b ≡ bestFor new (entriesIn w 1)
 unfolding bestFor pick entriesIn

@@ -15,11 +15,12 @@ use Rattle.pages.specs.Sizes.{FANOUT, PAGES}
 use Rattle.pages.specs.Rectangles.{entryOf, widen, bounds}
 use Rattle.pages.specs.Layout.{Page, pageOf, noEntry, noPage, pageAt, encodePage, pageWords}
 use Rattle.pages.specs.Readers.{entryIn}
+use Rattle.pages.proofs.Cells.{entry-in}
 use Rattle.placing.specs.Place.{choose, Step, stepOf, fill, entryFor, renew, down}
 use Rattle.placing.specs.Steps.{entrySet, putPage, writtenOf, addTo, entryAt, resetEntry, widenedBy, widenEntry, settled, chosenIn, placeAt}
 use Rattle.placing.proofs.Fill.{spread, choose-below}
 use Rattle.placing.proofs.Keeps.{After, Before, child, child-in, child-level, child-around, one-T, after}
-use Rattle.placing.proofs.PageWords.{entry-in, filled-in, entry-set}
+use Rattle.placing.proofs.PageWords.{filled-in, entry-set}
 use Rattle.placing.proofs.TableWords.{tabled, pages-word, page-words, entry-at, page-set}
 use Rattle.placing.proofs.Adding.{written, fill-kept, fill-grows, add-fill}
 

@@ -8,7 +8,8 @@ use mathlib.Core.Bool.{Bool, true, false, cond}
 use mathlib.Core.List.{List, [], _∷_, _++_}
 use lib.ListN.{length, take, drop, set, length-append, length-take, length-drop, length-set, List·getD-append}
 use lib.Seq.{getD-set-same, getD-set-other, getD-at}
-use lib.Dec.{T, leb, leb→le, le→leb}
+use lib.Dec.{T, leb}
+use borrow.Author.Tests.{leb-true, leb-false}
 use Rattle.pages.specs.declared.Rect.{Rect}
 use Rattle.pages.specs.declared.Entry.{Entry}
 use Rattle.pages.specs.Lists.{one, sum}
@@ -41,18 +42,6 @@ pub record Fill (ps : List Page) (p : ℕ) (es : List Entry) (s : Step) : Type 1
   pub total : (W : Page → ℕ) (g : Entry → ℕ) → ((xs : List Entry) → W (pageOf (pageAt ps p .level) xs) ≡ sum g xs)
       → sum W (s .pages) + sum g (pageAt ps p .entries) ≡ sum W ps + sum g es
   pub around : spread p s ≡ bounds es
-
-leb-no : (m n : ℕ) → leb m n ≡ false → n < m
-leb-no m n e = go (decLt n m)
-  where
-    go : Dec (n < m) → n < m
-    go (yes h) = h
-    go (no h) =
-        let k : T (leb m n) = le→leb m n (omega arith) in
-        absurd (rw e at k)
-
-leb-yes : (m n : ℕ) → leb m n ≡ true → m ≤ n
-leb-yes m n e = leb→le m n (rw e tt)
 
 module _ (ps : List Page) (p : ℕ) (es : List Entry) (pl : p < length ps) (le : length es ≤ 9) where
   abbrev l : ℕ
@@ -127,8 +116,8 @@ module _ (ps : List Page) (p : ℕ) (es : List Entry) (pl : p < length ps) (le :
   filled = go (leb (length es) 8) refl
     where
       go : (b : Bool) → leb (length es) 8 ≡ b → Fill ps p es (cond b kept cut)
-      go true h = fill-kept (leb-yes (length es) 8 h)
-      go false h = fill-cut (leb-no (length es) 8 h)
+      go true h = fill-kept (leb-true (length es) 8 h)
+      go false h = fill-cut (leb-false (length es) 8 h)
 
 -- the entry to go to is one of the page's
 scan-below : (new best : Rect) (at next n : ℕ) (es : List Entry) → at < n → next + length es ≤ n → scan new best at next es < n

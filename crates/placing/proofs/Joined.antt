@@ -13,19 +13,19 @@ use Rattle.pages.specs.Lists.{sum, sumBelow}
 use Rattle.pages.specs.Rectangles.{entryOf, valid}
 use Rattle.pages.specs.Layout.{Page, Table, pageOf, tableOf, noPage, pageAt, page, encodePage, encode, pageWords, tableIn}
 use Rattle.pages.specs.Sound.{leaf, pieceEntries, is, stored, sound}
+use Rattle.pages.proofs.Lists.{sum-cond}
 use Rattle.pages.proofs.Below.{below-same, sum-places}
 use Rattle.pages.proofs.Facts.{Facts}
-use Rattle.pages.proofs.Counting.{pieces-few}
-use Rattle.pages.proofs.Walk.{facts-shape}
 use Rattle.pages.proofs.Cells.{page-in}
-use Rattle.pages.proofs.Round.{length-encode}
+use Rattle.pages.proofs.Round.{level-word, length-encode}
 use Rattle.pages.proofs.Whole.{sound-encode, sound-in}
-use Rattle.placing.specs.Place.{Step, entryFor, down, newRoot, place}
+use Rattle.pages.proofs.Counting.{count-few}
+use Rattle.soundness.proofs.Words as slice
+use Rattle.placing.specs.Place.{Step, entryFor, newRoot, place}
 use Rattle.placing.specs.Calls.{placedWords}
 use Rattle.placing.specs.Steps.{putPage, Written, writtenOf, entryAt, placeAt, rootMade, placeIn, heldIn, heldBelow}
-use Rattle.placing.proofs.Keeps.{After, after}
-use Rattle.placing.proofs.Placed.{before, place-sound}
-use Rattle.placing.proofs.PageWords.{level-word, filled-in}
+use Rattle.placing.proofs.Placed.{before, rootStep, root-after, place-sound}
+use Rattle.placing.proofs.PageWords.{filled-in}
 use Rattle.placing.proofs.TableWords.{tabled, tabled-in, pages-word, root-word, pieces-word, page-words, entry-at, root-set, pieces-set, page-append}
 use Rattle.placing.proofs.Descent.{place-down}
 
@@ -53,12 +53,12 @@ in-open t n r = refl
 abbrev stepped : Table → List Page → Bool → Table
 stepped t ps b = cond b (tableOf (length ps) (suc (t .count)) (newRoot (t .root) ps)) (tableOf (t .root) (suc (t .count)) ps)
 
-place-open : (t : Table) (n : ℕ) (r : Rect) → let s : Step = down (pageAt (t .pages) (t .root) .level) (t .root) (entryOf r n) (t .pages) in
+place-open : (t : Table) (n : ℕ) (r : Rect) → let s : Step = rootStep t n r in
     place t n r ≡ stepped t (s .pages) (s .split)
 unfolding place
 place-open t n r = refl
 
-words-open : (w : List ℕ) (n : ℕ) (r : Rect) → placedWords w n r ≡ encode (place (tableIn w) n r) ++ drop TABLE_WORDS w
+pub words-open : (w : List ℕ) (n : ℕ) (r : Rect) → placedWords w n r ≡ encode (place (tableIn w) n r) ++ drop TABLE_WORDS w
 unfolding placedWords
 words-open w n r = refl
 
@@ -101,13 +101,10 @@ module _ (t : Table) (F : Facts t) (rest : List ℕ) (n : ℕ) (r : Rect) (most 
   level = pageAt (t .pages) (t .root) .level
 
   abbrev s : Step
-  s = down level (t .root) (entryOf r n) (t .pages)
+  s = rootStep t n r
 
   abbrev w : List ℕ
   w = tabled (t .root) (t .count) (t .pages) rest
-
-  A : After (t .pages) level (t .root) (entryOf r n) s
-  A = after level (t .root) (entryOf r n) (t .pages) (before t F) (F .top) refl
 
   opened : placeIn w n r ≡ finished (t .root) level (t .count) (placeAt level w (t .root) (entryOf r n))
   opened =
@@ -118,6 +115,7 @@ module _ (t : Table) (F : Facts t) (rest : List ℕ) (n : ℕ) (r : Rect) (most 
 
   placed-words : placeIn w n r ≡ encode (place t n r) ++ rest
   placed-words =
+      let A = root-after t n r F in
       let o : place t n r ≡ stepped t (s .pages) (s .split) = place-open t n r in
       let fits : length (stepped t (s .pages) (s .split) .pages) ≤ PAGES = omega (arith, ap (λ x. length (x .pages)) o) in
       let few : length (s .pages) ≤ PAGES = omega (arith, stepped-grows t (s .pages) (s .split)) in
@@ -131,28 +129,16 @@ module _ (w : List ℕ) (wl : TABLE_WORDS ≤ length w) (h : T (sound w)) where
   abbrev table : Table
   table = tableIn w
 
-  abbrev past : List ℕ
-  past = drop TABLE_WORDS w
+  F : Facts table
+  F = sound-in w h
 
-  pub pages-in : getD w 0 0 ≡ length (table .pages)
-  pages-in = ap (λ v. getD v 0 0) (tabled-in w wl h) ∙ pages-word (table .root) (table .count) (table .pages) past
-
-  pub root-in : getD w 1 0 ≡ table .root
-  root-in = ap (λ v. getD v 1 0) (tabled-in w wl h) ∙ root-word (table .root) (table .count) (table .pages) past
-
-  pub pieces-in : getD w 2 0 ≡ table .count
-  pieces-in = ap (λ v. getD v 2 0) (tabled-in w wl h) ∙ pieces-word (table .root) (table .count) (table .pages) past
-
-  pub level-in : getD (pageWords w (getD w 1 0)) 0 0 ≡ page table (table .root) .level
-  level-in =
-      let F : Facts table = sound-in w h in
-      ap (λ p. getD (pageWords w p) 0 0) root-in ∙ (ap (λ v. getD v 0 0) (page-in w (table .root) wl h (omega (arith, F .top, F .most))) ∙ level-word (page table (table .root)))
+  level-in : getD (pageWords w (getD w 1 0)) 0 0 ≡ page table (table .root) .level
+  level-in = ap (λ p. getD (pageWords w p) 0 0) (sym (slice.root-word w wl)) ∙ sym (slice.level-word w wl (table .root) (F .top) (F .most))
 
   -- what the functions on words ask for
   pub head-in : (getD w 0 0 ≤ PAGES) × (getD w 1 0 < PAGES) × (getD (pageWords w (getD w 1 0)) 0 0 ≤ TOP_LEVEL) × (getD w 2 0 ≤ PIECES)
   head-in =
-      let F : Facts table = sound-in w h in
-      omega (arith, pages-in, root-in, pieces-in, level-in, F .most, F .top, F .levels (table .root) (F .top), F .counted, pieces-few table (facts-shape table F))
+      omega (arith, slice.pages-word w wl, slice.root-word w wl, slice.pieces-word w wl, level-in, F .most, F .top, F .levels (table .root) (F .top), count-few table F)
 
 -- an accepted call
 module _ (w : List ℕ) (n : ℕ) (r : Rect) (wl : TABLE_WORDS ≤ length w) (h : T (sound w)) (vr : T (valid r)) (vn : n < PIECES) (free : stored (tableIn w) n ≡ 0) where
@@ -171,11 +157,7 @@ module _ (w : List ℕ) (n : ℕ) (r : Rect) (wl : TABLE_WORDS ≤ length w) (h 
 -- what the leaves hold
 held-page : (g : Page) (c : ℕ) → length (g .entries) ≤ FANOUT → heldIn (encodePage g) c ≡ sum (is c) (pieceEntries g)
 unfolding heldIn
-held-page g c l = rw (level-word g) (ap (λ es. cond (leaf g) (sum (is c) es) 0) (filled-in g l) ∙ go (leaf g))
-  where
-    go : (b : Bool) → cond b (sum (is c) (g .entries)) 0 ≡ sum (is c) (cond b (g .entries) [])
-    go true = refl
-    go false = refl
+held-page g c l = rw (level-word g) (ap (λ es. cond (leaf g) (sum (is c) es) 0) (filled-in g l) ∙ sym (sum-cond (is c) (leaf g) (g .entries)))
 
 below-open : (t : List ℕ) (c k : ℕ) → heldBelow t c k ≡ sumBelow k (λ p. heldIn (pageWords t p) c)
 unfolding heldBelow
@@ -186,7 +168,7 @@ held-in w c wl h =
     let t : Table = tableIn w in
     let F : Facts t = sound-in w h in
     below-open w c (getD w 0 0)
-    ∙ (ap (λ k. sumBelow k (λ p. heldIn (pageWords w p) c)) (pages-in w wl h)
+    ∙ (ap (λ k. sumBelow k (λ p. heldIn (pageWords w p) c)) (sym (slice.pages-word w wl))
     ∙ (below-same (length (t .pages)) (λ p. heldIn (pageWords w p) c) (λ p. sum (is c) (pieceEntries (page t p)))
     (λ p l. ap (λ v. heldIn v c) (page-in w p wl h (omega (arith, F .most))) ∙ held-page (page t p) c (F .eight p l))
     ∙ sym (sum-places (λ g. sum (is c) (pieceEntries g)) (t .pages) noPage)))

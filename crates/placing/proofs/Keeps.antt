@@ -1,7 +1,6 @@
 -- Going down to a leaf and back keeps the bullets, but for what the parent still has to do.
 use Prim.Native.Nat.{ℕ, zero, suc, _+_, _-_, _≤_, _<_, min}
 use native.Mathlib.Omega.{arith}
-use native.Mathlib.Nat.{not-suc-le-zero}
 use native.Mathlib.Decide.{ℕ-discrete, decLt}
 use mathlib.Core.Path.{_≡_, refl, sym, ap, _∙_}
 use mathlib.Core.Logic.{_≢_}
@@ -10,15 +9,16 @@ use mathlib.Core.List.{List, [], _∷_, _++_}
 use lib.ListN.{length, getD, set, length-append, length-set}
 use lib.Seq.{getD-set-same, getD-set-other}
 use lib.Dec.{T, leb, ltb, eqb}
+use borrow.Author.Tests.{le-leb, lt-leb, eq-eqb, ne-eqb}
 use Rattle.pages.specs.declared.Entry.{Entry}
 use Rattle.pages.specs.Lists.{one, sum}
 use Rattle.pages.specs.Rectangles.{widen, bounds}
 use Rattle.pages.specs.Layout.{Page, pageOf, noEntry, noPage, pageAt}
 use Rattle.pages.specs.Sound.{childEntries, pieceEntries, is}
-use Rattle.pages.proofs.Lists.{Every, every, every-at, at-every, every-map, every-both, every-append, sum-append, sum-set, sum-at, sum-two, sum-zero}
-use Rattle.pages.proofs.Below.{eqb-yes, eqb-no, leb-is, leb-not}
+use Rattle.pages.proofs.Lists.{Every, every, every-at, at-every, every-map, every-both, every-append, sum-append, sum-set, sum-at, sum-two, sum-zeros}
+use Rattle.pages.proofs.Entries.{Fits, refit, is-none, unnamed, names, leaves, leaf-children, above-children, above-pieces}
+use Rattle.pages.proofs.Below.{one-le, T-one}
 use Rattle.pages.proofs.Bounds.{bounds-last}
-use Rattle.pages.proofs.Entries.{Fits, refit, names, leaves, leaf-children, above-children, above-pieces}
 use Rattle.placing.specs.Place.{choose, Step, entryFor, renew, down}
 use Rattle.placing.proofs.Bounding.{bounds-renewed}
 use Rattle.placing.proofs.Fill.{Touched, spread, Fill, filled, choose-below}
@@ -60,13 +60,13 @@ pub record Before (ps : List Page) : Type 0 where
 -- tests
 
 pub between-low : (k m q : ℕ) → q < k → between k m q ≡ 0
-between-low k m q h = rw (leb-not k q h)
+between-low k m q h = rw (lt-leb k q h)
 
 pub between-in : (k m q : ℕ) → k ≤ q → q < m → between k m q ≡ 1
-between-in k m q h j = rw (leb-is k q h, leb-is (suc q) m j)
+between-in k m q h j = rw (le-leb k q h, le-leb (suc q) m j)
 
 pub between-high : (k m q : ℕ) → k ≤ m → m ≤ q → between k m q ≡ 0
-between-high k m q i h = rw (leb-is k q (omega arith), leb-not (suc q) m (omega arith))
+between-high k m q i h = rw (le-leb k q (omega arith), lt-leb (suc q) m (omega arith))
 
 -- m is one more, or not
 between-step : (k m : ℕ) (b : Bool) (q n : ℕ) → k ≤ m → n ≡ m + one b → between k m q + cond b (one (eqb (n - 1) q)) 0 ≡ between k n q
@@ -76,29 +76,21 @@ between-step k m false q n h e =
 between-step k m true q n h e = go (decLt q k) (decLt q m) (ℕ-discrete q m)
   where
     go : Dec (q < k) → Dec (q < m) → Dec (q ≡ m) → between k m q + one (eqb (n - 1) q) ≡ between k n q
-    go (yes a) x y = rw (between-low k m q a, between-low k n q a, eqb-no (n - 1) q (omega arith))
-    go (no a) (yes x) y = rw (between-in k m q (omega arith) x, between-in k n q (omega arith) (omega arith), eqb-no (n - 1) q (omega arith))
-    go (no a) (no x) (yes y) = rw (between-high k m q h (omega arith), between-in k n q (omega arith) (omega arith), eqb-yes (n - 1) q (omega arith))
-    go (no a) (no x) (no y) = rw (between-high k m q h (omega arith), between-high k n q (omega arith) (omega arith), eqb-no (n - 1) q (omega arith))
+    go (yes a) x y = rw (between-low k m q a, between-low k n q a, ne-eqb (n - 1) q (omega arith))
+    go (no a) (yes x) y = rw (between-in k m q (omega arith) x, between-in k n q (omega arith) (omega arith), ne-eqb (n - 1) q (omega arith))
+    go (no a) (no x) (yes y) = rw (between-high k m q h (omega arith), between-in k n q (omega arith) (omega arith), eq-eqb (n - 1) q (omega arith))
+    go (no a) (no x) (no y) = rw (between-high k m q h (omega arith), between-high k n q (omega arith) (omega arith), ne-eqb (n - 1) q (omega arith))
 
 between-none : (k q : ℕ) → between k k q ≡ 0
 between-none k q = go (decLt q k)
   where
     go : Dec (q < k) → between k k q ≡ 0
-    go (yes a) = rw (leb-not k q a)
-    go (no a) = rw (leb-is k q (omega arith), leb-not (suc q) k (omega arith))
-
-T-one : (b : Bool) → 0 < one b → T b
-T-one true h = tt
-T-one false h = absurd (not-suc-le-zero h)
+    go (yes a) = rw (lt-leb k q a)
+    go (no a) = rw (le-leb k q (omega arith), lt-leb (suc q) k (omega arith))
 
 pub one-T : (b : Bool) → T b → one b ≡ 1
 one-T true h = refl
 one-T false h = absurd h
-
-sum-naught : (xs : List Entry) → sum (λ x. 0) xs ≡ 0
-sum-naught [] = refl
-sum-naught (x ∷ xs) = omega (arith, sum-naught xs)
 
 -- what every fill gives
 module _ (ps : List Page) (p : ℕ) (es : List Entry) (s : Step) (F : Fill ps p es s) (pl : p < length ps) where
@@ -144,7 +136,7 @@ module _ (ps : List Page) (p : ℕ) (e : Entry) (B : Before ps) (pl : p < length
   es = pageAt ps p .entries ++ (e ∷ [])
 
   leaf-names : (q : ℕ) → names (s .pages) q ≡ names ps q
-  leaf-names q = omega (arith, F .total (λ x. sum (is q) (childEntries x)) (λ x. 0) (λ xs. rw lv (sym (sum-naught xs))), sum-naught (pageAt ps p .entries), sum-naught es)
+  leaf-names q = omega (arith, F .total (λ x. sum (is q) (childEntries x)) (λ x. 0) (λ xs. rw lv (sym (sum-zeros xs))), sum-zeros (pageAt ps p .entries), sum-zeros es)
 
   leaf-holds : (f : Entry → ℕ) → leaves f (s .pages) ≡ f e + leaves f ps
   leaf-holds f = omega (arith, F .total (λ x. sum f (pieceEntries x)) f (λ xs. rw lv refl), sum-append f (pageAt ps p .entries) (e ∷ []))
@@ -179,12 +171,7 @@ sum-apart f xs i j d n a b = go (decLt i j)
     go (no h) = omega (arith, sum-two f xs j i d (omega arith) a)
 
 is-self : (e : Entry) → is (e .r) e ≡ 1
-is-self e = rw (eqb-yes (e .r) (e .r) refl)
-
-pub is-none : (q : ℕ) (e : Entry) → is q e ≡ 0 → e .r ≢ q
-is-none q e h r =
-    let a : is q e ≡ 1 = rw (eqb-yes (e .r) q r) in
-    omega (arith, a, h)
+is-self e = rw (eq-eqb (e .r) (e .r) refl)
 
 sum-last : (f : Entry → ℕ) (b : Bool) (x : Entry) → sum f (cond b (x ∷ []) []) ≡ cond b (f x) 0
 sum-last f true x = omega arith
@@ -236,8 +223,7 @@ module _ (ps : List Page) (B : Before ps) (l p i : ℕ) (pl : p < length ps) (lv
       let c : ℕ = child ps p i in
       let a = sum-apart (λ x. sum (is c) (childEntries x)) ps q p noPage n ql pl in
       let b = sum-at (is c) (pageAt ps p .entries) i noEntry il in
-      let z : sum (is c) (childEntries (pageAt ps q)) ≡ 0 = omega (arith, a, b, sum-here (is c), is-self (getD (pageAt ps p .entries) i noEntry), B .once c child-in) in
-      every-map (λ x. is c x ≡ 0) (λ x. x .r ≢ c) (λ x h. is-none c x h) (childEntries (pageAt ps q)) (sum-zero (is c) (childEntries (pageAt ps q)) z)
+      unnamed c (childEntries (pageAt ps q)) (omega (arith, a, b, sum-here (is c), is-self (getD (pageAt ps p .entries) i noEntry), B .once c child-in))
 
   only-place : (j : ℕ) → j < length (pageAt ps p .entries) → j ≢ i → getD (pageAt ps p .entries) j noEntry .r ≢ child ps p i
   only-place j jl n =
@@ -252,10 +238,6 @@ length-renew es i s =
     let x : Entry = entryFor (getD es i noEntry .r) (s .pages) in
     let y : Entry = entryFor (length (s .pages) - 1) (s .pages) in
     omega (arith, length-append (set es i x) (cond (s .split) (y ∷ []) []), length-set es i x, length-last (s .split) y)
-
-one-le : (b : Bool) → one b ≤ 1
-one-le true = omega arith
-one-le false = omega arith
 
 -- a page above the leaves
 module _ (ps : List Page) (B : Before ps) (l p i : ℕ) (e : Entry) (pl : p < length ps) (lv : pageAt ps p .level ≡ suc l) (il : i < length (pageAt ps p .entries))
@@ -290,8 +272,8 @@ module _ (ps : List Page) (B : Before ps) (l p i : ℕ) (e : Entry) (pl : p < le
 
   step-holds : (f : Entry → ℕ) → leaves f (u .pages) ≡ f e + leaves f ps
   step-holds f =
-      let a = F .total (λ x. sum f (pieceEntries x)) (λ x. 0) (λ xs. ap (sum f) (above-pieces (pageOf (pageAt (s .pages) p .level) xs) l level-here) ∙ sym (sum-naught xs)) in
-      omega (arith, a, sum-naught (pageAt (s .pages) p .entries), sum-naught es′, A .holding f)
+      let a = F .total (λ x. sum f (pieceEntries x)) (λ x. 0) (λ xs. ap (sum f) (above-pieces (pageOf (pageAt (s .pages) p .level) xs) l level-here) ∙ sym (sum-zeros xs)) in
+      omega (arith, a, sum-zeros (pageAt (s .pages) p .entries), sum-zeros es′, A .holding f)
 
   -- a child that is another one than the child gone to is the same
   same-child : (x : Entry) → x .r ≢ child ps p i → Fits ps (suc l) x → Fits (u .pages) (suc l) x

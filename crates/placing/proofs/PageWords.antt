@@ -9,47 +9,22 @@ use lib.ListN.{length, getD, take, drop, set, length-append, length-set, List·g
 use lib.Seq.{take-suc, take-length, getD-set-same, getD-set-other, getD-at, set-set}
 use Rattle.pages.specs.declared.Entry.{Entry}
 use Rattle.pages.specs.Sizes.{PAGE_HEAD, FANOUT, ENTRY_WORDS}
-use Rattle.pages.specs.Rectangles.{rectOf, entryOf}
 use Rattle.pages.specs.Layout.{Page, pageOf, noEntry, encodeEntry, encodePage}
-use Rattle.pages.specs.Readers.{entryIn, entriesIn}
-use Rattle.pages.proofs.Round.{size-entry, size-page}
-use Rattle.pages.proofs.Cells.{entry-word, entry-change}
+use Rattle.pages.specs.Readers.{entriesIn}
+use Rattle.pages.proofs.Round.{size-entry, size-page, count-word}
+use Rattle.pages.proofs.Cells.{entry-in, entry-change}
 use Rattle.pages.proofs.Over.{over, over-past}
 use Rattle.placing.specs.Steps.{countIn, filledIn, entrySet, appended}
 use Rattle.placing.proofs.Writing.{entry-over}
 
 -- reading
 
-pub level-word : (g : Page) → getD (encodePage g) 0 0 ≡ g .level
-unfolding encodePage
-level-word g = refl
-
-pub count-word : (g : Page) → getD (encodePage g) 1 0 ≡ length (g .entries)
-unfolding encodePage
-count-word g = refl
-
 module _ (g : Page) where
-  word-at : (i j : ℕ) → i < FANOUT → j < ENTRY_WORDS → getD (encodePage g) (PAGE_HEAD + ENTRY_WORDS * i + j) 0 ≡ getD (encodeEntry (getD (g .entries) i noEntry)) j 0
-  word-at i j il jl =
-      let e : PAGE_HEAD + ENTRY_WORDS * i + j ≡ PAGE_HEAD + (ENTRY_WORDS * i + j) = omega arith in
-      ap (λ m. getD (encodePage g) m 0) e ∙ entry-word g i j il jl
-
-  first-word : (i : ℕ) → i < FANOUT → getD (encodePage g) (PAGE_HEAD + ENTRY_WORDS * i) 0 ≡ getD (encodeEntry (getD (g .entries) i noEntry)) 0 0
-  first-word i il =
-      let e : PAGE_HEAD + ENTRY_WORDS * i ≡ PAGE_HEAD + (ENTRY_WORDS * i + 0) = omega arith in
-      ap (λ m. getD (encodePage g) m 0) e ∙ entry-word g i 0 il (omega arith)
-
-  pub entry-in : (i : ℕ) → i < FANOUT → entryIn (encodePage g) i ≡ getD (g .entries) i noEntry
-  unfolding encodeEntry
-  entry-in i il = λ k. entryOf
-      (rectOf (first-word i il k) (word-at i 1 il (omega arith) k) (word-at i 2 il (omega arith) k) (word-at i 3 il (omega arith) k))
-      (word-at i 4 il (omega arith) k)
-
   entries-in : (n : ℕ) → n ≤ length (g .entries) → n ≤ FANOUT → entriesIn (encodePage g) n ≡ take n (g .entries)
   unfolding entriesIn
   entries-in zero l m = refl
   entries-in (suc n) l m =
-      rw (entries-in n (omega arith) (omega arith), entry-in n m) (sym (take-suc (g .entries) n noEntry l))
+      rw (entries-in n (omega arith) (omega arith), entry-in g n m) (sym (take-suc (g .entries) n noEntry l))
 
   pub all-in : length (g .entries) ≤ FANOUT → entriesIn (encodePage g) (length (g .entries)) ≡ g .entries
   all-in l = entries-in (length (g .entries)) (omega arith) l ∙ take-length (g .entries)

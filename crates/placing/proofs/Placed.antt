@@ -2,13 +2,14 @@
 use Prim.Native.Nat.{ℕ, suc, _+_, _-_, _≤_, _<_}
 use native.Mathlib.Omega.{arith}
 use native.Mathlib.Decide.{ℕ-discrete, decLt}
-use mathlib.Core.Path.{_≡_, refl, sym, ap, _∙_}
+use mathlib.Core.Path.{_≡_, refl, sym, ap}
 use mathlib.Core.Logic.{_≢_}
 use mathlib.Core.Bool.{Bool, true, false, not, cond}
 use mathlib.Core.List.{List, [], _∷_, _++_}
 use lib.ListN.{length, length-append, List·getD-append}
 use lib.Seq.{getD-at}
 use lib.Dec.{T, ltb, eqb, ltb→lt, lt→ltb}
+use borrow.Author.Tests.{eq-eqb, ne-eqb}
 use Rattle.pages.specs.declared.Rect.{Rect}
 use Rattle.pages.specs.declared.Entry.{Entry}
 use Rattle.pages.specs.Sizes.{PIECES}
@@ -17,13 +18,12 @@ use Rattle.pages.specs.Rectangles.{entryOf, valid, bounds}
 use Rattle.pages.specs.Layout.{Page, Table, pageOf, tableOf, noPage, pageAt, page}
 use Rattle.pages.specs.Sound.{leaf, childEntries, pieceEntries, is, stored, fewest}
 use Rattle.pages.proofs.Lists.{Every, at-every, every-map, every-both, sum-append, sum-at, sum-zero}
-use Rattle.pages.proofs.Below.{eqb-yes, eqb-no, eqb-sym, sum-nothing}
+use Rattle.pages.proofs.Below.{eqb-sym, sum-nothing}
 use Rattle.pages.proofs.Facts.{Facts}
-use Rattle.pages.proofs.Counting.{is-not, Shape, shape-facts}
-use Rattle.pages.proofs.Entries.{Fits, refit, names, leaves, above-children, above-pieces, fits-all, pieces-leaves}
-use Rattle.pages.proofs.Walk.{k}
+use Rattle.pages.proofs.Counting.{Shape, shape-facts}
+use Rattle.pages.proofs.Entries.{Fits, refit, is-not, names, leaves, above-children, above-pieces, fits-all, root-free, pieces-leaves}
 use Rattle.placing.specs.Place.{Step, entryFor, down, newRoot, place}
-use Rattle.placing.proofs.Keeps.{loose, After, Before, between-low, between-in, between-high, is-none, after}
+use Rattle.placing.proofs.Keeps.{loose, After, Before, between-low, between-in, between-high, after}
 
 -- the pages of a sound table
 module _ (t : Table) (F : Facts t) where
@@ -40,7 +40,7 @@ module _ (t : Table) (F : Facts t) where
     where
       go : (b : Bool) → cond b (cond (leaf (page t q)) 0 2) 4 ≤ length (page t q .entries) → 0 < length (page t q .entries)
       go true k =
-          let z : leaf (page t q) ≡ false = eqb-no (page t q .level) 0 (omega arith) in
+          let z : leaf (page t q) ≡ false = ne-eqb (page t q .level) 0 (omega arith) in
           let k′ : 2 ≤ length (page t q .entries) = rw z at k in
           omega arith
       go false k = omega arith
@@ -60,13 +60,6 @@ module _ (t : Table) (F : Facts t) where
   beyond : (q : ℕ) → length (t .pages) ≤ q → names (t .pages) q ≡ 0
   beyond q l = sum-nothing (λ p. sum (is q) (childEntries p)) (t .pages) (at-every (λ p. sum (is q) (childEntries p) ≡ 0) (t .pages) noPage
       (λ p k. sum-nothing (is q) (childEntries (page t p)) (every-map (λ x. x .r < length (t .pages)) (λ x. is q x ≡ 0) (λ x h. is-not q x (omega arith)) (childEntries (page t p)) (F .inside p k))))
-
-  -- nothing names the root
-  root-free : (p : ℕ) → p < length (t .pages) → Every (λ x. x .r ≢ t .root) (childEntries (page t p))
-  root-free p l =
-      let z : names (t .pages) (t .root) ≡ 0 = F .once (t .root) (F .top) ∙ ap (λ b. cond b 0 1) (eqb-yes (t .root) (t .root) refl) in
-      every-map (λ x. is (t .root) x ≡ 0) (λ x. x .r ≢ t .root) (λ x h. is-none (t .root) x h) (childEntries (page t p))
-      (sum-zero (is (t .root)) (childEntries (page t p)) (omega (arith, z, sum-at (λ x. sum (is (t .root)) (childEntries x)) (t .pages) p noPage l)))
 
 -- a test that each piece passes
 untrue : (q : Entry → Bool) → Entry → ℕ
@@ -132,7 +125,7 @@ module _ (t : Table) (F : Facts t) (n : ℕ) (r : Rect) (vr : T (valid r)) (vn :
     hold-once c l = go (ℕ-discrete n c)
       where
         go : Dec (n ≡ c) → leaves (is c) vs ≤ 1
-        go (yes z) = rw (← z) (omega (arith, hold (is n), free, ap one (eqb-yes n n refl)))
+        go (yes z) = rw (← z) (omega (arith, hold (is n), free, ap one (eq-eqb n n refl)))
         go (no z) = omega (arith, hold (is c), is-not c e z, F .distinct c l)
 
     hold-count : suc (t .count) ≡ sum (λ p. length (pieceEntries p)) vs
@@ -145,7 +138,7 @@ module _ (t : Table) (F : Facts t) (n : ℕ) (r : Rect) (vr : T (valid r)) (vn :
       go : Dec (q < length (t .pages)) → names (s .pages) q + loose s q ≡ cond (eqb q (t .root)) 0 1
       go (yes a) = omega (arith, A .naming q, between-low (length (t .pages)) (length (s .pages)) q a, F .once q a)
       go (no a) =
-          let z : _≡_ {A = ℕ} (cond (eqb q (t .root)) 0 1) 1 = ap (λ b. cond b 0 1) (eqb-no q (t .root) (omega (arith, F .top))) in
+          let z : _≡_ {A = ℕ} (cond (eqb q (t .root)) 0 1) 1 = ap (λ b. cond b 0 1) (ne-eqb q (t .root) (omega (arith, F .top))) in
           omega (arith, A .naming q, between-in (length (t .pages)) (length (s .pages)) q (omega arith) l, beyond t F q (omega arith), z)
 
   level-now : (q : ℕ) → q < length (s .pages) → pageAt (s .pages) q .level ≤ 4
@@ -159,6 +152,7 @@ module _ (t : Table) (F : Facts t) (n : ℕ) (r : Rect) (vr : T (valid r)) (vn :
   unsplit : s .split ≡ false → Shape (tableOf (t .root) (suc (t .count)) (s .pages))
   unfolding fewest
   unsplit ns = record {
+    most = omega arith;
     top = omega (arith, F .top, A .grown);
     levels = λ q l. omega (arith, level-now q l);
     lower = λ q l. every-map (Fits (s .pages) (pageAt (s .pages) q .level)) (λ x. pageAt (s .pages) q .level ≡ suc (pageAt (s .pages) (x .r) .level)) (λ x f. f .lower) (childEntries (pageAt (s .pages) q)) (fit q l);
@@ -251,8 +245,8 @@ module _ (t : Table) (F : Facts t) (n : ℕ) (r : Rect) (vr : T (valid r)) (vn :
 
     once2 : (q : ℕ) → q < length vs → names vs q ≡ cond (eqb q (length (s .pages))) 0 1
     once2 = each2 (λ q. names vs q ≡ cond (eqb q (length (s .pages))) 0 1)
-        (λ q l. rw (eqb-no q (length (s .pages)) (omega arith)) (omega (arith, names2 q, loose2 q, named-now q l, flip (eqb q (t .root)), ap one (eqb-sym (t .root) q))))
-        (rw (eqb-yes (length (s .pages)) (length (s .pages)) refl)
+        (λ q l. rw (ne-eqb q (length (s .pages)) (omega arith)) (omega (arith, names2 q, loose2 q, named-now q l, flip (eqb q (t .root)), ap one (eqb-sym (t .root) q))))
+        (rw (eq-eqb (length (s .pages)) (length (s .pages)) refl)
         (omega (
           arith,
           names2 (length (s .pages)),
@@ -260,7 +254,7 @@ module _ (t : Table) (F : Facts t) (n : ℕ) (r : Rect) (vr : T (valid r)) (vn :
           A .naming (length (s .pages)),
           beyond t F (length (s .pages)) (omega (arith, A .grown)),
           between-high (length (t .pages)) (length (s .pages)) (length (s .pages)) (omega (arith, A .grown)) (omega arith),
-          ap one (eqb-no (t .root) (length (s .pages)) (omega (arith, root-in))),
+          ap one (ne-eqb (t .root) (length (s .pages)) (omega (arith, root-in))),
         )))
       where
         flip : (b : Bool) → cond b 0 1 + one b ≡ 1
@@ -275,20 +269,21 @@ module _ (t : Table) (F : Facts t) (n : ℕ) (r : Rect) (vr : T (valid r)) (vn :
         go (no a) b = A .enough q (omega arith) l
         go (yes a) (yes b) = rw b (A .half sp)
         go (yes a) (no b) =
-            let z : 4 ≤ length (page t q .entries) = rw (eqb-no q (t .root) b) at (F .enough q a) in
+            let z : 4 ≤ length (page t q .entries) = rw (ne-eqb q (t .root) b) at (F .enough q a) in
             omega (arith, A .least q a)
 
     split : Shape (tableOf (length (s .pages)) (suc (t .count)) vs)
     unfolding fewest
     split = record {
+      most = omega arith;
       top = omega (arith, len2);
       levels = each2 (λ q. pageAt vs q .level ≤ 5) (λ q l. rw (old2 q l) (omega (arith, level-now q l))) (rw new2 (omega (arith, level-now (t .root) root-in)));
       lower = λ q l. every-map (Fits vs (pageAt vs q .level)) (λ x. pageAt vs q .level ≡ suc (pageAt vs (x .r) .level)) (λ x f. f .lower) (childEntries (pageAt vs q)) (fit2 q l);
       once = once2;
       inside = λ q l. every-map (Fits vs (pageAt vs q .level)) (λ x. x .r < length vs) (λ x f. f .inside) (childEntries (pageAt vs q)) (fit2 q l);
       enough = each2 (λ q. cond (eqb q (length (s .pages))) (cond (leaf (pageAt vs q)) 0 2) 4 ≤ length (pageAt vs q .entries))
-          (λ q l. rw (eqb-no q (length (s .pages)) (omega arith), old2 q l) (big2 q l))
-          (rw (eqb-yes (length (s .pages)) (length (s .pages)) refl, new2) (two (leaf top2)));
+          (λ q l. rw (ne-eqb q (length (s .pages)) (omega arith), old2 q l) (big2 q l))
+          (rw (eq-eqb (length (s .pages)) (length (s .pages)) refl, new2) (two (leaf top2)));
       eight = each2 (λ q. length (pageAt vs q .entries) ≤ 8) (λ q l. rw (old2 q l) (A .eight q l)) (rw new2 (omega arith));
       exact = λ q l. every-map (Fits vs (pageAt vs q .level)) (λ x. x .rect ≡ bounds (pageAt vs (x .r) .entries)) (λ x f. f .exact) (childEntries (pageAt vs q)) (fit2 q l);
       valids = hold-valid vs hold2;
@@ -301,19 +296,23 @@ module _ (t : Table) (F : Facts t) (n : ℕ) (r : Rect) (vr : T (valid r)) (vn :
         two true = omega arith
         two false = omega arith
 
+-- the step from the root
+abbrev pub rootStep : Table → ℕ → Rect → Step
+rootStep t n r = down (page t (t .root) .level) (t .root) (entryOf r n) (t .pages)
+
+pub root-after : (t : Table) (n : ℕ) (r : Rect) → Facts t → After (t .pages) (page t (t .root) .level) (t .root) (entryOf r n) (rootStep t n r)
+root-after t n r F = after (page t (t .root) .level) (t .root) (entryOf r n) (t .pages) (before t F) (F .top) refl
+
 pub place-sound : (t : Table) (n : ℕ) (r : Rect) → Facts t → T (valid r) → n < PIECES → stored t n ≡ 0 → Facts (place t n r)
 unfolding place newRoot
 place-sound t n r F vr vn free = shape-facts (place t n r) (go (s .split) refl)
   where
     s : Step
-    s = down (page t (t .root) .level) (t .root) (entryOf r n) (t .pages)
-
-    A : After (t .pages) (page t (t .root) .level) (t .root) (entryOf r n) s
-    A = after (page t (t .root) .level) (t .root) (entryOf r n) (t .pages) (before t F) (F .top) refl
+    s = rootStep t n r
 
     go : (b : Bool) → s .split ≡ b → Shape (cond b (tableOf (length (s .pages)) (suc (t .count)) (newRoot (t .root) (s .pages))) (tableOf (t .root) (suc (t .count)) (s .pages)))
-    go true h = split t F n r vr vn free s A (rw h tt)
-    go false h = unsplit t F n r vr vn free s A h
+    go true h = split t F n r vr vn free s (root-after t n r F) (rw h tt)
+    go false h = unsplit t F n r vr vn free s (root-after t n r F) h
 
 -- what the leaves hold afterwards: the new piece, and what they held
 pub place-holds : (t : Table) (n : ℕ) (r : Rect) → Facts t → T (valid r) → n < PIECES → stored t n ≡ 0 → (f : Entry → ℕ) → leaves f (place t n r .pages) ≡ f (entryOf r n) + leaves f (t .pages)
@@ -321,11 +320,8 @@ unfolding place newRoot
 place-holds t n r F vr vn free f = go (s .split) refl
   where
     s : Step
-    s = down (page t (t .root) .level) (t .root) (entryOf r n) (t .pages)
-
-    A : After (t .pages) (page t (t .root) .level) (t .root) (entryOf r n) s
-    A = after (page t (t .root) .level) (t .root) (entryOf r n) (t .pages) (before t F) (F .top) refl
+    s = rootStep t n r
 
     go : (b : Bool) → s .split ≡ b → leaves f (cond b (tableOf (length (s .pages)) (suc (t .count)) (newRoot (t .root) (s .pages))) (tableOf (t .root) (suc (t .count)) (s .pages)) .pages) ≡ f (entryOf r n) + leaves f (t .pages)
-    go true h = hold2 t F n r vr vn free s A (rw h tt) f
-    go false h = A .holding f
+    go true h = hold2 t F n r vr vn free s (root-after t n r F) (rw h tt) f
+    go false h = root-after t n r F .holding f

@@ -2,21 +2,21 @@
 use Prim.Native.Nat.{ℕ, zero, suc, _+_, _-_, _≤_, _<_}
 use native.Mathlib.Omega.{arith}
 use native.Mathlib.Nat.{add-zero, add-suc}
-use native.Mathlib.Decide.{decLt}
 use native.Mathlib.Numerals.{add-one}
 use mathlib.Core.Path.{_≡_, refl, sym, ap, _∙_}
 use mathlib.Core.Bool.{Bool, true, false}
 use mathlib.Core.List.{List, [], _∷_}
 use lib.ListN.{getD}
 use lib.Dec.{ltb}
-use borrow.Author.Tests.{ltb-true, ltb-false, lt-ltb}
+use borrow.Author.Tests.{ltb-true, ltb-false, lt-ltb, eq-eqb, ne-eqb}
 use Rattle.pages.specs.Sizes.{FANOUT}
-use Rattle.pages.specs.Lists.{sum}
+use Rattle.pages.specs.Lists.{one, sum}
 use Rattle.pages.specs.Layout.{pageWords}
 use Rattle.pages.specs.Sound.{is}
 use Rattle.pages.specs.Readers.{entryIn, entriesIn}
 use Rattle.pages.proofs.Lists.{sum-append}
-use Rattle.pages.proofs.Below.{eqb-yes, eqb-no, below-at}
+use Rattle.pages.proofs.Below.{below-at}
+use Rattle.soundness.proofs.Entries.{sum-entry}
 use Rattle.placing.specs.Steps.{countIn, heldIn, heldBelow}
 
 held-last : (w : List ℕ) (c n : ℕ) → sum (is c) (entriesIn w (suc n)) ≡ sum (is c) (entriesIn w n) + is c (entryIn w n)
@@ -27,19 +27,11 @@ held-zero : (w : List ℕ) (c n : ℕ) → ((i : ℕ) → i < n → entryIn w i 
 unfolding entriesIn
 held-zero w c zero h = refl
 held-zero w c (suc n) h =
-    let z : is c (entryIn w n) ≡ 0 = rw (eqb-no (entryIn w n .r) c (h n (omega arith))) in
+    let z : is c (entryIn w n) ≡ 0 = rw (ne-eqb (entryIn w n .r) c (h n (omega arith))) in
     omega (arith, held-last w c n, held-zero w c n (λ i l. h i (omega arith)))
 
 held-some : (w : List ℕ) (c n i : ℕ) → i < n → entryIn w i .r ≡ c → 0 < sum (is c) (entriesIn w n)
-held-some w c zero i l e = absurd (omega arith)
-held-some w c (suc n) i l e = go (decLt i n) (λ a. held-some w c n i a e)
-  where
-    go : Dec (i < n) → (i < n → 0 < sum (is c) (entriesIn w n)) → 0 < sum (is c) (entriesIn w (suc n))
-    go (yes a) h = omega (arith, held-last w c n, h a)
-    go (no a) h =
-        let q : i ≡ n = omega arith in
-        let o : is c (entryIn w n) ≡ 1 = rw (eqb-yes (entryIn w n .r) c (ap (λ m. entryIn w m .r) (sym q) ∙ e)) in
-        omega (arith, held-last w c n)
+held-some w c n i l e = omega (arith, sum-entry w (is c) n i l, ap one (eq-eqb (entryIn w i .r) c e))
 
 pub ref-at : (w : List ℕ) (c n i : ℕ) → i < n → entryIn w i .r ≡ c → true ≡ ltb 0 (sum (is c) (entriesIn w n))
 ref-at w c n i l e = sym (lt-ltb 0 (sum (is c) (entriesIn w n)) (held-some w c n i l e))
@@ -53,7 +45,7 @@ held-front w c n (suc m) = omega (arith, ap (λ k. sum (is c) (entriesIn w k)) (
 
 pub held-above : (w : List ℕ) (c : ℕ) → (getD w 0 0 ≡ 0 → ⊥) → false ≡ ltb 0 (heldIn w c)
 unfolding heldIn
-held-above w c h = rw (eqb-no (getD w 0 0) 0 h)
+held-above w c h = rw (ne-eqb (getD w 0 0) 0 h)
 
 pub held-not : (w : List ℕ) (c : ℕ) (b : Bool) → getD w 0 0 ≡ 0 → b ≡ ltb 0 (sum (is c) (entriesIn w FANOUT)) → b ≡ false → false ≡ ltb 0 (heldIn w c)
 unfolding heldIn
@@ -61,11 +53,11 @@ held-not w c b z p q =
     let m : countIn w + (FANOUT - countIn w) ≡ FANOUT = omega arith in
     let e : sum (is c) (entriesIn w (countIn w)) ≡ 0 =
     omega (arith, held-front w c (countIn w) (FANOUT - countIn w), ap (λ k. sum (is c) (entriesIn w k)) m, ltb-false 0 (sum (is c) (entriesIn w FANOUT)) (sym p ∙ q)) in
-    rw (eqb-yes (getD w 0 0) 0 z, e)
+    rw (eq-eqb (getD w 0 0) 0 z, e)
 
 pub held-is : (w : List ℕ) (c n : ℕ) (b : Bool) → getD w 0 0 ≡ 0 → n ≡ countIn w → b ≡ ltb 0 (sum (is c) (entriesIn w n)) → b ≡ ltb 0 (heldIn w c)
 unfolding heldIn
-held-is w c n b z p q = q ∙ rw (eqb-yes (getD w 0 0) 0 z, p)
+held-is w c n b z p q = q ∙ rw (eq-eqb (getD w 0 0) 0 z, p)
 
 pub below-none : (t : List ℕ) (c : ℕ) → heldBelow t c 0 ≡ 0
 unfolding heldBelow

@@ -1,22 +1,16 @@
-// Places the examples of document 01 and long lists of pieces, asks queries, and prints what the calls return and leave.
-mod lays;
-mod print;
-mod runs;
-
-use lays::Lay;
+// Places the examples of document 01 and prints what the calls return and leave.
 use pages::PAGE_WORDS;
 use pages::Rect;
 use pages::TABLE_HEAD;
-use print::checksum;
-use print::edges;
-use print::number;
-use print::range;
-use print::store;
-use print::text;
-use print::word;
-use runs::ask;
-use runs::print_head;
-use runs::run;
+use printing::ask;
+use printing::checksum;
+use printing::edges;
+use printing::number;
+use printing::print_head;
+use printing::range;
+use printing::store;
+use printing::text;
+use printing::word;
 
 // One word less than a table.
 const SHORT: usize = 14_324;
@@ -128,39 +122,13 @@ fn unsound_calls(table: &mut [u32]) {
     print_head(table);
 }
 
-fn examples(answer: &mut [u16]) {
+fn main() {
+    let mut answer = [0u16; 1_024];
     let mut table = [0u32; pages::TABLE_WORDS];
     place_nine(&mut table);
-    print_nine(&table, answer);
+    print_nine(&table, &mut answer);
     single_calls(&mut table);
     bad_both(&mut table);
     short_calls();
     unsound_calls(&mut table);
-}
-
-fn grids(answer: &mut [u16]) {
-    run(b"rising", Lay::Rising, 1_024, 0, 2_400, answer);
-    run(b"falling", Lay::Falling, 1_024, 0, 2_400, answer);
-    run(b"shuffled", Lay::Shuffled, 1_024, 1, 2_400, answer);
-}
-
-fn crowds(answer: &mut [u16]) {
-    run(b"equal", Lay::Equal, 1_024, 0, 1, answer);
-    run(b"strips", Lay::Strips, 1_024, 0, 55_000, answer);
-    run(b"nested", Lay::Nested, 1_024, 0, 55_000, answer);
-    run(b"growing", Lay::Growing, 1_024, 0, 55_000, answer);
-}
-
-fn chances(answer: &mut [u16]) {
-    run(b"spread", Lay::Spread, 1_024, 2, 55_000, answer);
-    run(b"tiny", Lay::Tiny, 1_024, 3, 1, answer);
-    run(b"refused", Lay::Refused, 3_000, 4, 60, answer);
-}
-
-fn main() {
-    let mut answer = [0u16; 1_024];
-    examples(&mut answer);
-    grids(&mut answer);
-    crowds(&mut answer);
-    chances(&mut answer);
 }

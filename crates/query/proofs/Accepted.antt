@@ -21,7 +21,7 @@ use Rattle.pages.specs.Lists.{one}
 use Rattle.pages.specs.Refusals.{ACCEPTED, TABLE_TOO_SHORT, TABLE_NOT_SOUND}
 use Rattle.pages.specs.Layout.{Page, noEntry, pageAt, page, tableIn}
 use Rattle.pages.specs.Sound.{sound}
-use Rattle.pages.proofs.Lists.{Every, every-at, at-every}
+use Rattle.pages.proofs.Lists.{T-true, Every, every-at, at-every}
 use Rattle.pages.proofs.Facts.{Facts}
 use Rattle.pages.proofs.Whole.{sound-in}
 use Rattle.query.specs.declared.Answer.{Answer}
@@ -30,7 +30,7 @@ use Rattle.query.specs.Opening.{joined, openedUnder, openedPages}
 use Rattle.query.specs.Calls.{soundRefusal, noAnswer, queryListing, queryOpened, queryAnswer, querySound, queryCall, times}
 use Rattle.query.proofs.Members.{In, in-times, times-in, once-apart}
 use Rattle.query.proofs.Pieces.{PieceAt, listed-exactly, listed-rising}
-use Rattle.query.proofs.Tests.{is-true, Proper, proper, QuarterIn, quarter-rule}
+use Rattle.query.proofs.Tests.{Proper, proper, QuarterIn, quarter-rule}
 use Rattle.query.proofs.Root.{opened-once, opened-few}
 use Rattle.query.proofs.Parents.{child-proper, opened-inside, opened-child}
 use Rattle.query.proofs.Calls.{accepted}
@@ -205,4 +205,4 @@ pub answer-is : (w : List ℕ) (q : Rect) (clauses answer : List ℕ) → Good w
 unfolding queryCall querySound queryAnswer
 answer-is w q clauses answer g =
     chosen (ltb (length w) TABLE_WORDS) (sound w) (soundRefusal q clauses (length answer) (tableIn w .count)) (noAnswer TABLE_TOO_SHORT, answer) (queryAnswer w q clauses answer)
-    (noAnswer (soundRefusal q clauses (length answer) (tableIn w .count)), answer) (noAnswer TABLE_NOT_SOUND, answer) (le-ltb (length w) TABLE_WORDS (g .words)) (is-true (sound w) (g .holds)) (g .refusal)
+    (noAnswer (soundRefusal q clauses (length answer) (tableIn w .count)), answer) (noAnswer TABLE_NOT_SOUND, answer) (le-ltb (length w) TABLE_WORDS (g .words)) (T-true (sound w) (g .holds)) (g .refusal)

@@ -1,15 +1,15 @@
 -- The answers of the calls on a sound table, refused and accepted.
 use Prim.Native.Nat.{ℕ, zero, suc, _+_, _≤_}
 use native.Mathlib.Omega.{arith}
-use native.Mathlib.Nat.{le-trans, le-of-eq}
-use mathlib.Core.Path.{_≡_, refl, ap, ap₂, _∙_}
+use native.Mathlib.Nat.{le-trans}
+use mathlib.Core.Path.{_≡_, refl, sym, ap, ap₂, _∙_}
 use mathlib.Core.Logic.{_≢_}
 use mathlib.Core.Bool.{Bool, true, false, not, cond}
 use mathlib.Core.List.{List, _++_}
 use lib.ListN.{length, getD, drop, replicate}
 use lib.Seq.{sets, sets-eq}
 use lib.Dec.{T, ltb, eqb}
-use borrow.Author.Tests.{ltb-false, ne-eqb}
+use borrow.Author.Tests.{ltb-false, le-ltb, ne-eqb}
 use Rattle.relations.specs.declared.AdmittedSet.{AdmittedSet}
 use Rattle.relations.specs.Query.{refusalOf, rowSets, admittedOf}
 use Rattle.relations.specs.Steps.{joinedOf}
@@ -20,32 +20,32 @@ use Rattle.pages.specs.Rectangles.{valid}
 use Rattle.pages.specs.Refusals.{ACCEPTED, RECTANGLE_NOT_VALID, ANSWER_TOO_SHORT}
 use Rattle.pages.specs.Layout.{tableIn}
 use Rattle.pages.specs.Sound.{sound}
+use Rattle.pages.proofs.Lists.{true-T, T-true}
 use Rattle.pages.proofs.Whole.{sound-in}
-use Rattle.pages.proofs.Counting.{pieces-few}
-use Rattle.pages.proofs.Walk.{facts-shape}
+use Rattle.pages.proofs.Counting.{count-few}
+use Rattle.soundness.proofs.Words.{pages-word, pieces-word}
 use Rattle.query.specs.declared.Answer.{Answer}
 use Rattle.query.specs.declared.Opened.{Opened}
 use Rattle.query.specs.Admission.{admitsRect, opens}
 use Rattle.query.specs.Opening.{openedPages}
-use Rattle.query.specs.Calls.{soundRefusal, noAnswer, noOpened, queryListing, queryOpened, queryAnswer, querySound, openedSound}
-use Rattle.query.specs.Steps.{MARK_WORDS, refusalFrom, admitsBy, opensBy, hitsFrom, marked, markedNumbers, openedListed}
-use Rattle.query.proofs.Reading.{pages-word, count-word}
+use Rattle.query.specs.Calls.{refusalFrom, soundRefusal, noAnswer, noOpened, queryListing, queryOpened, queryAnswer, querySound, openedSound}
+use Rattle.query.specs.Steps.{MARK_WORDS, admitsBy, opensBy, hitsFrom, marked, markedNumbers, openedListed}
 use Rattle.query.proofs.Root.{opened-few}
-use Rattle.query.proofs.Tests.{from-true, admits-same, opens-same, proper, reaches, set-refusal}
+use Rattle.query.proofs.Tests.{admits-same, opens-same, proper, reaches, set-refusal}
 use Rattle.query.proofs.Found.{found, listing-few}
 
 -- from the refusal of the clauses, as the source has it
 refusal-is : (q : Rect) (clauses : List ℕ) (set : AdmittedSet) (r size n m : ℕ) → set ≡ admittedOf clauses → r ≡ refusalFrom q (set .refusal) size n → n ≡ m → r ≡ soundRefusal q clauses size m
-unfolding refusalFrom soundRefusal
+unfolding soundRefusal
 refusal-is q clauses set r size n m s e z = e ∙ ap₂ (λ x y. refusalFrom q x size y) (ap (λ x. x .refusal) s ∙ set-refusal clauses) z
 
-module _ (w : List ℕ) (words : TABLE_WORDS ≤ length w) (holds : T (sound w)) (q : Rect) (clauses : List ℕ) (set : AdmittedSet) (r size n : ℕ) (same : set ≡ admittedOf clauses)
+module _ (w : List ℕ) (words : TABLE_WORDS ≤ length w) (q : Rect) (clauses : List ℕ) (set : AdmittedSet) (r size n : ℕ) (same : set ≡ admittedOf clauses)
     (e : r ≡ refusalFrom q (set .refusal) size n) where
   pub query-refusal : n ≡ getD w 2 0 → r ≡ soundRefusal q clauses size (tableIn w .count)
-  query-refusal z = refusal-is q clauses set r size n (tableIn w .count) same e (z ∙ count-word w words holds)
+  query-refusal z = refusal-is q clauses set r size n (tableIn w .count) same e (z ∙ sym (pieces-word w words))
 
   pub opened-refusal : n ≡ getD w 0 0 → r ≡ soundRefusal q clauses size (length (tableIn w .pages))
-  opened-refusal z = refusal-is q clauses set r size n (length (tableIn w .pages)) same e (z ∙ pages-word w words holds)
+  opened-refusal z = refusal-is q clauses set r size n (length (tableIn w .pages)) same e (z ∙ sym (pages-word w words))
 
 pub record Accepted (q : Rect) (clauses : List ℕ) (size needed : ℕ) : Type 0 where
   pub rectangle : T (valid q)
@@ -60,8 +60,12 @@ accepted q clauses size needed e = go (valid q) refl (refusalOf clauses) refl (l
         → cond (not v) RECTANGLE_NOT_VALID (cond (eqb r ACCEPTED) (cond b ANSWER_TOO_SHORT ACCEPTED) r) ≡ 0 → Accepted q clauses size needed
     go false a r c b d z = absurd (omega arith)
     go true a zero c true d z = absurd (omega arith)
-    go true a zero c false d z = record { rectangle = from-true (valid q) a; query = c; room = ltb-false size needed d }
+    go true a zero c false d z = record { rectangle = true-T (valid q) a; query = c; room = ltb-false size needed d }
     go true a (suc r) c b d z = absurd (omega (arith, rw (ne-eqb (suc r) 0 (λ y. omega arith)) at z))
+
+pub accepts : (q : Rect) (clauses : List ℕ) (size needed : ℕ) → Accepted q clauses size needed → soundRefusal q clauses size needed ≡ 0
+unfolding soundRefusal
+accepts q clauses size needed a = rw (T-true (valid q) (a .rectangle), a .query, le-ltb size needed (a .room))
 
 sets-front : (o l : List ℕ) → length l ≤ length o → sets o 0 l ≡ l ++ drop (length l) o
 sets-front o l h = sets-eq l o 0 (omega arith) ∙ (let e : 0 + length l ≡ length l = omega arith in rw e)
@@ -112,9 +116,7 @@ module _ (w : List ℕ) (holds : T (sound w)) (q : Rect) (clauses : List ℕ) wh
   listing-room = listing-few (tableIn w) (admitsRect clauses q) (sound-in w holds)
 
   pub listing-small : length (queryListing w q clauses) ≤ PIECES
-  listing-small =
-      let F = sound-in w holds in
-      le-trans listing-room (le-trans (le-of-eq (F .counted)) (pieces-few (tableIn w) (facts-shape (tableIn w) F)))
+  listing-small = le-trans listing-room (count-few (tableIn w) (sound-in w holds))
 
 -- what the marks of an accepted query list
 pub record Lists (w : List ℕ) (q : Rect) (clauses o m : List ℕ) : Type 0 where

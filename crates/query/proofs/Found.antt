@@ -1,8 +1,7 @@
 -- The walk from the root marks the listing: what it passes over holds no admitted piece. The listing is no longer than the piece count.
 use Prim.Native.Nat.{ℕ, zero, suc, _/_, _≤_, _<_}
 use native.Mathlib.Omega.{arith}
-use native.Mathlib.Nat.{le-trans, le-of-eq}
-use native.Mathlib.Decide.{ℕ-discrete}
+use native.Mathlib.Nat.{le-trans, le-of-eq, add-zero}
 use mathlib.Core.Path.{_≡_, refl, sym, ap, _∙_}
 use mathlib.Core.Bool.{Bool, true, false, cond}
 use mathlib.Core.List.{List, [], _∷_}
@@ -15,9 +14,10 @@ use Rattle.pages.specs.Lists.{one, sum, sumBelow}
 use Rattle.pages.specs.Rectangles.{valid}
 use Rattle.pages.specs.Layout.{Page, Table, noPage, pageAt, page}
 use Rattle.pages.specs.Sound.{pieceEntries, is, stored, pieces}
-use Rattle.pages.proofs.Lists.{Every, at-every, sum-append, sum-same, sum-le, sum-length, sum-below}
-use Rattle.pages.proofs.Below.{below-same, below-le, below-none, eqb-no, eqb-sym}
+use Rattle.pages.proofs.Lists.{Every, at-every, sum-append, sum-same, sum-le, sum-cond}
+use Rattle.pages.proofs.Below.{below-le, cond-le}
 use Rattle.pages.proofs.Facts.{Facts}
+use Rattle.pages.proofs.Counting.{stored-sum}
 use Rattle.pages.proofs.Walk.{walked, Within, walk-finds}
 use Rattle.query.specs.Opening.{joined}
 use Rattle.query.specs.Listing.{rising, admittedAs, listing}
@@ -39,15 +39,7 @@ every-entry P h (e ∷ es) = (h e, every-entry P h es)
 
 module _ (admit opens : Rect → Bool) (c : ℕ) (ps : List Page) where
   hit-times : (e : Entry) → times c (admittedR admit e) ≡ weight admit c e
-  hit-times e = go (admit (e .rect))
-    where
-      go : (b : Bool) → times c (cond b (e .r ∷ []) []) ≡ cond b (is c e) 0
-      go true = omega arith
-      go false = refl
-
-  cond-times : (b : Bool) (xs : List ℕ) (n : ℕ) → times c xs ≡ n → times c (cond b xs []) ≡ cond b n 0
-  cond-times true xs n h = h
-  cond-times false xs n h = refl
+  hit-times e = sum-cond (λ x. one (eqb x c)) (admit (e .rect)) (e .r ∷ []) ∙ ap (λ n. cond (admit (e .rect)) n 0) (add-zero (is c e))
 
   -- how often the walk meets c
   hits-times : (l p : ℕ) → times c (hitsUnder admit opens ps l p) ≡ walked opens (weight admit c) ps l p
@@ -58,7 +50,7 @@ module _ (admit opens : Rect → Bool) (c : ℕ) (ps : List Page) where
   hits-times (suc l) p =
       sum-joined (λ x. one (eqb x c)) (λ e. cond (opens (e .rect)) (hitsUnder admit opens ps l (e .r)) []) (pageAt ps p .entries)
       ∙ sum-same (λ e. times c (cond (opens (e .rect)) (hitsUnder admit opens ps l (e .r)) [])) (λ e. cond (opens (e .rect)) (walked opens (weight admit c) ps l (e .r)) 0) (pageAt ps p .entries)
-      (every-entry _ (λ e. cond-times (opens (e .rect)) (hitsUnder admit opens ps l (e .r)) (walked opens (weight admit c) ps l (e .r)) (hits-times l (e .r))) (pageAt ps p .entries))
+      (every-entry _ (λ e. sum-cond (λ x. one (eqb x c)) (opens (e .rect)) (hitsUnder admit opens ps l (e .r)) ∙ ap (λ n. cond (opens (e .rect)) n 0) (hits-times l (e .r))) (pageAt ps p .entries))
 
 shut : (admit : Rect → Bool) (c : ℕ) (e : Entry) → (T (admit (e .rect)) → ⊥) → weight admit c e ≡ 0
 shut admit c e = go (admit (e .rect))
@@ -84,10 +76,6 @@ module _ (t : Table) (F : Facts t) (admit opens : Rect → Bool) (reaches : (r s
 
 -- ---- how long the listing is
 
-one-le : (b : Bool) → one b ≤ 1
-one-le true = omega arith
-one-le false = omega arith
-
 length-rising : (n : ℕ) (p : ℕ → Bool) → length (rising n p) ≡ sumBelow n (λ c. one (p c))
 length-rising zero p = refl
 length-rising (suc n) p = omega (arith, length-append (rising n p) (cond (p n) (n ∷ []) []), length-rising n p, go (p n))
@@ -105,52 +93,21 @@ some-one (suc m) = go (ltb 0 (suc m))
     go false = omega arith
 
 module _ (t : Table) (admit : Rect → Bool) where
-  weight-le : (c : ℕ) (e : Entry) → weight admit c e ≤ is c e
-  weight-le c e = go (admit (e .rect))
-    where
-      go : (b : Bool) → cond b (is c e) 0 ≤ is c e
-      go true = omega arith
-      go false = omega arith
-
   pub admitted-le : (c : ℕ) → admittedAs admit t c ≤ stored t c
   admitted-le c =
       sum-le (λ p. sum (weight admit c) (pieceEntries p)) (λ p. sum (is c) (pieceEntries p)) (t .pages)
       (at-every (λ p. sum (weight admit c) (pieceEntries p) ≤ sum (is c) (pieceEntries p)) (t .pages) noPage
-      (λ i l. sum-le (weight admit c) (is c) (pieceEntries (page t i)) (every-entry _ (weight-le c) (pieceEntries (page t i)))))
+      (λ i l. sum-le (weight admit c) (is c) (pieceEntries (page t i)) (every-entry _ (λ e. cond-le (admit (e .rect)) (is c e)) (pieceEntries (page t i)))))
 
-  -- an entry has one r
-  one-r : (n : ℕ) (e : Entry) → sumBelow n (λ c. is c e) ≤ 1
-  one-r zero e = omega arith
-  one-r (suc n) e = go (ℕ-discrete n (e .r)) (one-r n e)
-    where
-      go : Dec (n ≡ e .r) → sumBelow n (λ c. is c e) ≤ 1 → sumBelow (suc n) (λ c. is c e) ≤ 1
-      go (yes z) r =
-          let a : sumBelow n (λ c. is c e) ≡ 0 = below-same n (λ c. is c e) (λ c. cond (eqb c (e .r)) 1 0) (λ c l. ap one (eqb-sym (e .r) c)) ∙ below-none n (e .r) (λ c. 1) (omega arith) in
-          let b : is n e ≤ 1 = one-le (eqb (e .r) n) in
-          omega (arith, a, b)
-      go (no z) r =
-          let b : is n e ≡ 0 = ap one (eqb-no (e .r) n (λ y. z (sym y))) in
-          omega (arith, b)
-
-  stored-all : (n : ℕ) → sumBelow n (stored t) ≤ pieces t
-  stored-all n =
-      let a = sum-below (λ c p. sum (is c) (pieceEntries p)) n (t .pages) in
-      let b = sum-le (λ p. sumBelow n (λ c. sum (is c) (pieceEntries p))) (λ p. length (pieceEntries p)) (t .pages)
-      (at-every (λ p. sumBelow n (λ c. sum (is c) (pieceEntries p)) ≤ length (pieceEntries p)) (t .pages) noPage (λ i l. each (pieceEntries (page t i)))) in
-      omega (arith, a, b)
-    where
-      each : (es : List Entry) → sumBelow n (λ c. sum (is c) es) ≤ length es
-      each es = omega (arith, sum-below is n es, sum-le (λ e. sumBelow n (λ c. is c e)) (λ e. 1) es (every-entry _ (one-r n) es), sum-length es)
-
-  listed-few : (n : ℕ) → length (rising n (λ c. ltb 0 (admittedAs admit t c))) ≤ pieces t
-  listed-few n =
+  listed-few : (n : ℕ) → ((p : ℕ) → p < length (t .pages) → Every (λ e. e .r < n) (pieceEntries (page t p))) → length (rising n (λ c. ltb 0 (admittedAs admit t c))) ≤ pieces t
+  listed-few n small =
       omega (
         arith,
         length-rising n (λ c. ltb 0 (admittedAs admit t c)),
         below-le n (λ c. one (ltb 0 (admittedAs admit t c))) (stored t) (λ c l. le-trans (some-one (admittedAs admit t c)) (admitted-le c)),
-        stored-all n,
+        stored-sum t n small,
       )
 
   pub listing-few : Facts t → length (listing admit t) ≤ t .count
   unfolding listing
-  listing-few F = le-trans (listed-few PIECES) (le-of-eq (sym (F .counted)))
+  listing-few F = le-trans (listed-few PIECES (F .numbers)) (le-of-eq (sym (F .counted)))

@@ -4,37 +4,23 @@ use native.Mathlib.Omega.{arith}
 use native.Mathlib.Nat.{add-zero}
 use native.Mathlib.Decide.{ℕ-discrete}
 use mathlib.Core.Path.{_≡_, refl, sym, ap, _∙_}
-use mathlib.Core.Bool.{Bool, true, false, cond, _||_}
-use mathlib.Core.List.{List, [], _∷_, _++_, append-assoc}
+use mathlib.Core.Bool.{Bool, true, false, _||_, cond, or-false, or-assoc}
+use mathlib.Core.List.{List, [], _∷_, _++_, append-nil, append-assoc}
 use lib.ListN.{length, getD, set, replicate, length-set, length-replicate, length-append}
 use lib.Seq.{getD-set-same, getD-set-other, sets}
 use lib.Bits.{bitOr}
 use lib.Dec.{ltb, eqb}
-use borrow.Author.Tests.{lt-ltb}
+use borrow.Author.Tests.{lt-ltb, eq-eqb, ne-eqb}
 use Rattle.relations.specs.Sets.{bit}
 use Rattle.relations.proofs.Bits.{bit-half, bit-none, bit-or}
 use Rattle.pages.specs.Sizes.{PIECES}
 use Rattle.pages.specs.Lists.{one}
-use Rattle.pages.proofs.Below.{eqb-yes, eqb-no}
+use Rattle.pages.proofs.Zeros.{zero-at}
 use Rattle.query.specs.Listing.{rising}
 use Rattle.query.specs.Calls.{times}
 use Rattle.query.specs.Steps.{MARK_BITS, MARK_WORDS, isMarked, withMark, marked, onesFrom, markedNumbers}
 use Rattle.query.proofs.Joined.{sets-append}
 use Rattle.query.proofs.Bits.{bit-pow}
-
-or-comm : (a b : Bool) → (a || b) ≡ (b || a)
-or-comm true true = refl
-or-comm true false = refl
-or-comm false true = refl
-or-comm false false = refl
-
-or-assoc : (a b c : Bool) → ((a || b) || c) ≡ (a || (b || c))
-or-assoc true b c = refl
-or-assoc false b c = refl
-
-or-none : (a : Bool) → (a || false) ≡ a
-or-none true = refl
-or-none false = refl
 
 pub mark-at : (m : List ℕ) (r c : ℕ) → c / MARK_BITS < length m → isMarked (withMark m r) c ≡ (isMarked m c || eqb r c)
 unfolding isMarked withMark
@@ -47,11 +33,11 @@ mark-at m r c l = go (ℕ-discrete (c / 64) (r / 64))
         (ap (λ b. bit (getD m (r / 64) 0) (c % 64) || b) (same (ℕ-discrete r c)))
       where
         same : Dec (r ≡ c) → eqb (c % 64) (r % 64) ≡ eqb r c
-        same (yes d) = rw (eqb-yes r c d) (eqb-yes (c % 64) (r % 64) (omega arith))
-        same (no d) = rw (eqb-no r c d) (eqb-no (c % 64) (r % 64) (λ z. d (omega arith)))
+        same (yes d) = rw (eq-eqb r c d) (eq-eqb (c % 64) (r % 64) (omega arith))
+        same (no d) = rw (ne-eqb r c d) (ne-eqb (c % 64) (r % 64) (λ z. d (omega arith)))
     go (no e) =
-        rw (getD-set-other m (r / 64) (c / 64) (bitOr (getD m (r / 64) 0) (2 ^ (r % 64))) 0 e, eqb-no r c (λ d. e (omega arith)))
-        (sym (or-none (bit (getD m (c / 64) 0) (c % 64))))
+        rw (getD-set-other m (r / 64) (c / 64) (bitOr (getD m (r / 64) 0) (2 ^ (r % 64))) 0 e, ne-eqb r c (λ d. e (omega arith)))
+        (sym (or-false (bit (getD m (c / 64) 0) (c % 64))))
 
 mark-length : (m : List ℕ) (r : ℕ) → length (withMark m r) ≡ length m
 unfolding withMark
@@ -63,16 +49,11 @@ some-more false n = let e : 0 + n ≡ n = omega arith in rw e
 
 pub marked-is : (m xs : List ℕ) (c : ℕ) → c / MARK_BITS < length m → isMarked (marked m xs) c ≡ (isMarked m c || ltb 0 (times c xs))
 unfolding marked
-marked-is m [] c l = sym (or-none (isMarked m c))
+marked-is m [] c l = sym (or-false (isMarked m c))
 marked-is m (x ∷ xs) c l =
     marked-is (withMark m x) xs c (omega (arith, mark-length m x))
     ∙ (ap (λ b. b || ltb 0 (times c xs)) (mark-at m x c l)
     ∙ (or-assoc (isMarked m c) (eqb x c) (ltb 0 (times c xs)) ∙ ap (λ b. isMarked m c || b) (sym (some-more (eqb x c) (times c xs)))))
-
-zero-at : (n i : ℕ) → getD {A = ℕ} (replicate n 0) i 0 ≡ 0
-zero-at zero i = refl
-zero-at (suc n) zero = refl
-zero-at (suc n) (suc i) = zero-at n i
 
 -- from no marks
 pub marked-new : (n : ℕ) (xs : List ℕ) (c : ℕ) → c / MARK_BITS < n → isMarked (marked (replicate n 0) xs) c ≡ ltb 0 (times c xs)
@@ -85,16 +66,12 @@ pub rising-same : (n : ℕ) (p q : ℕ → Bool) → ((c : ℕ) → c < n → p 
 rising-same zero p q h = refl
 rising-same (suc n) p q h = rw (h n (omega arith), rising-same n p q (λ c l. h c (omega arith)))
 
-empty-end : (ys : List ℕ) → ys ++ [] ≡ ys
-empty-end [] = refl
-empty-end (y ∷ ys) = ap (_∷_ y) (empty-end ys)
-
 -- the numbers from b on that are ones of n
 rising-ones : (p : ℕ → Bool) (k b n : ℕ) → ((j : ℕ) → j < k → p (b + j) ≡ bit n j) → rising (b + k) p ≡ rising b p ++ onesFrom b k n
 unfolding onesFrom
 rising-ones p zero b n h =
     let e : b + 0 ≡ b = omega arith in
-    rw e (sym (empty-end (rising b p)))
+    rw e (sym (append-nil (rising b p)))
 rising-ones p (suc k) b n h =
     let e : b + suc k ≡ suc b + k = omega arith in
     let z : p b ≡ bit n 0 = ap p (sym (add-zero b)) ∙ h 0 (omega arith) in

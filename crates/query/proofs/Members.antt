@@ -3,16 +3,16 @@ use Prim.Native.Nat.{ℕ, zero, suc, _+_, _≤_, _<_}
 use native.Mathlib.Omega.{arith}
 use native.Mathlib.Nat.{not-suc-le-zero}
 use native.Mathlib.Decide.{ℕ-discrete, decLt}
-use mathlib.Core.Path.{_≡_, refl, sym, ap, _∙_}
+use mathlib.Core.Path.{_≡_, refl, sym, ap}
 use mathlib.Core.Logic.{_≢_}
 use mathlib.Core.Bool.{Bool, true, false, cond}
 use mathlib.Core.List.{List, [], _∷_, _++_}
 use lib.ListN.{length, getD, length-append, List·getD-append}
 use lib.Seq.{getD-at}
 use lib.Dec.{eqb}
+use borrow.Author.Tests.{eq-eqb, ne-eqb}
 use Rattle.pages.specs.Lists.{one, sum}
 use Rattle.pages.proofs.Lists.{Every, every-at, every-map, every-append, sum-append, sum-at, sum-two}
-use Rattle.pages.proofs.Below.{eqb-yes, eqb-no}
 use Rattle.query.specs.Listing.{rising}
 use Rattle.query.specs.Calls.{times}
 
@@ -24,7 +24,7 @@ pub record In (c : ℕ) (xs : List ℕ) : Type 0 where
 
 pub in-times : (c : ℕ) (xs : List ℕ) → In c xs → 1 ≤ times c xs
 in-times c xs m =
-    omega (arith, ap one (eqb-yes (getD xs (m .place) 0) c (m .holds)), sum-at (λ x. one (eqb x c)) xs (m .place) 0 (m .inside))
+    omega (arith, ap one (eq-eqb (getD xs (m .place) 0) c (m .holds)), sum-at (λ x. one (eqb x c)) xs (m .place) 0 (m .inside))
 
 pub times-in : (c : ℕ) (xs : List ℕ) → 1 ≤ times c xs → In c xs
 times-in c [] h = absurd (omega arith)
@@ -33,14 +33,14 @@ times-in c (x ∷ xs) h = go (ℕ-discrete x c) (times-in c xs)
     go : Dec (x ≡ c) → (1 ≤ times c xs → In c xs) → In c (x ∷ xs)
     go (yes e) r = record { place = 0; inside = omega arith; holds = e }
     go (no e) r =
-        let m = r (omega (arith, ap one (eqb-no x c e))) in
+        let m = r (omega (arith, ap one (ne-eqb x c e))) in
         record { place = suc (m .place); inside = omega (arith, m .inside); holds = m .holds }
 
 -- a number that stands one time stands at one place
 pub once-apart : (xs : List ℕ) → ((c : ℕ) → times c xs ≤ 1) → (i j : ℕ) → i < j → j < length xs → getD xs i 0 ≢ getD xs j 0
 once-apart xs h i j l k e =
     let c : ℕ = getD xs j 0 in
-    omega (arith, h c, sum-two (λ x. one (eqb x c)) xs i j 0 l k, ap one (eqb-yes (getD xs i 0) c e), ap one (eqb-yes c c refl))
+    omega (arith, h c, sum-two (λ x. one (eqb x c)) xs i j 0 l k, ap one (eq-eqb (getD xs i 0) c e), ap one (eq-eqb c c refl))
 
 -- some element has the weight that a sum has
 pub sum-some : {A : Type 0} (f : A → ℕ) (xs : List A) (d : A) → 1 ≤ sum f xs → (i : ℕ) × (i < length xs) × (1 ≤ f (getD xs i d))
@@ -67,9 +67,6 @@ module _ (p : ℕ → Bool) where
   rising-order zero i j l k = absurd (not-suc-le-zero k)
   rising-order (suc n) i j l k = go (p n) (decLt j (length (rising n p))) k (rising-order n i j l)
     where
-      xs : List ℕ
-      xs = rising n p
-
       go : (b : Bool) → Dec (j < length (rising n p)) → j < length (rising n p ++ cond b (n ∷ []) []) → (j < length (rising n p) → getD (rising n p) i 0 < getD (rising n p) j 0)
           → getD (rising n p ++ cond b (n ∷ []) []) i 0 < getD (rising n p ++ cond b (n ∷ []) []) j 0
       go b (yes a) m r = rw (List·getD-append (rising n p) (cond b (n ∷ []) []) 0 i (omega arith), List·getD-append (rising n p) (cond b (n ∷ []) []) 0 j a) (r a)
@@ -79,31 +76,27 @@ module _ (p : ℕ → Bool) where
           let il : i < length (rising n p) = omega arith in
           rw (List·getD-append (rising n p) (n ∷ []) 0 i il, getD-at (rising n p) n [] 0 j (sym e)) (every-at (λ x. x < n) (rising n p) 0 (rising-below n) i il)
 
+  not-last : (b : Bool) (n c : ℕ) → n ≢ c → times c (cond b (n ∷ []) []) ≡ 0
+  not-last true n c e = omega (arith, ap one (ne-eqb n c e))
+  not-last false n c e = refl
+
   not-below : (n c : ℕ) → n ≤ c → times c (rising n p) ≡ 0
   not-below zero c l = refl
   not-below (suc n) c l =
-      omega (arith, sum-append (λ x. one (eqb x c)) (rising n p) (cond (p n) (n ∷ []) []), not-below n c (omega arith), last (p n))
-    where
-      last : (b : Bool) → times c (cond b (n ∷ []) []) ≡ 0
-      last true = omega (arith, ap one (eqb-no n c (λ e. omega arith)))
-      last false = refl
+      omega (arith, sum-append (λ x. one (eqb x c)) (rising n p) (cond (p n) (n ∷ []) []), not-below n c (omega arith), not-last (p n) n c (omega arith))
 
   -- each number below n that passes, one time
   pub rising-times : (n c : ℕ) → c < n → times c (rising n p) ≡ one (p c)
   rising-times zero c l = absurd (not-suc-le-zero l)
-  rising-times (suc n) c l = go (ℕ-discrete n c) (rising-times n c) ∙ refl
+  rising-times (suc n) c l = go (ℕ-discrete n c) (rising-times n c)
     where
       both : times c (rising (suc n) p) ≡ times c (rising n p) + times c (cond (p n) (n ∷ []) [])
       both = sum-append (λ x. one (eqb x c)) (rising n p) (cond (p n) (n ∷ []) [])
 
       same : (b : Bool) → n ≡ c → times c (cond b (n ∷ []) []) ≡ one b
-      same true e = omega (arith, ap one (eqb-yes n c e))
+      same true e = omega (arith, ap one (eq-eqb n c e))
       same false e = refl
-
-      other : (b : Bool) → n ≢ c → times c (cond b (n ∷ []) []) ≡ 0
-      other true e = omega (arith, ap one (eqb-no n c e))
-      other false e = refl
 
       go : Dec (n ≡ c) → (c < n → times c (rising n p) ≡ one (p c)) → times c (rising (suc n) p) ≡ one (p c)
       go (yes e) r = omega (arith, both, not-below n c (omega arith), same (p n) e, ap (λ x. one (p x)) e)
-      go (no e) r = omega (arith, both, r (omega arith), other (p n) e)
+      go (no e) r = omega (arith, both, r (omega arith), not-last (p n) n c e)

@@ -9,26 +9,23 @@ use mathlib.Core.Bool.{Bool, true, false, cond}
 use mathlib.Core.List.{List, [], _∷_}
 use lib.ListN.{length, getD}
 use lib.Dec.{T, eqb}
+use borrow.Author.Tests.{eq-eqb, ne-eqb}
 use Rattle.pages.specs.declared.Rect.{Rect}
 use Rattle.pages.specs.declared.Entry.{Entry}
 use Rattle.pages.specs.Lists.{one, sum, sumBelow}
 use Rattle.pages.specs.Rectangles.{valid, bounds}
 use Rattle.pages.specs.Layout.{Table, noEntry, noPage, page}
 use Rattle.pages.specs.Sound.{childEntries, is, named, fewest}
-use Rattle.pages.proofs.Lists.{Every, every-at, every-map, every-append, sum-same, sum-le, sum-at}
-use Rattle.pages.proofs.Below.{eqb-yes, eqb-no, eqb-sym, below-same, below-add, below-one, below-at, below-const, sum-places}
+use Rattle.pages.proofs.Lists.{Every, every-at, every-map, every-append, sum-at, sum-same, sum-le, sum-add, sum-cond}
+use Rattle.pages.proofs.Below.{below-same, below-add, below-const, sum-places, cond-le, cond-add, below-chosen, below-at}
 use Rattle.pages.proofs.Facts.{Facts}
-use Rattle.pages.proofs.Entries.{Fits, leaf-children, leaf-pieces, above-children, fits-all}
-use Rattle.pages.proofs.Walk.{Within, bounds-each, is-times}
+use Rattle.pages.proofs.Entries.{Fits, leaf-children, leaf-pieces, above-children, fits-above, root-free}
+use Rattle.pages.proofs.Walk.{Within, bounds-each}
 use Rattle.query.specs.Opening.{joined, openedUnder, openedPages}
 use Rattle.query.specs.Calls.{times}
 use Rattle.query.proofs.Found.{every-entry, sum-joined}
 use Rattle.query.proofs.Root.{opened-once}
 use Rattle.query.proofs.Tests.{Proper, proper, around}
-
-sum-add : {A : Type 0} (f g : A → ℕ) (xs : List A) → sum (λ x. f x + g x) xs ≡ sum f xs + sum g xs
-sum-add f g [] = refl
-sum-add f g (x ∷ xs) = omega (arith, sum-add f g xs)
 
 -- of all terms one alone is not zero
 below-only : (n : ℕ) (f g : ℕ → ℕ) (i : ℕ) → i < n → ((j : ℕ) → j < n → f j ≤ g j) → sumBelow n g ≤ 1 → g i ≡ 1 → sumBelow n f ≡ f i
@@ -51,39 +48,22 @@ sum-only f g xs d i l h s e =
     ∙ below-only (length xs) (λ j. f (getD xs j d)) (λ j. g (getD xs j d)) i l (λ j k. h (getD xs j d)) (omega (arith, sum-places g xs d)) e
 
 module _ (t : Table) (F : Facts t) where
-  -- the entries of a page above the leaves
-  children-fit : (l p : ℕ) → p < length (t .pages) → page t p .level ≡ suc l → Every (Fits (t .pages) (suc l)) (page t p .entries)
-  children-fit l p pl lv = rw (← above-children (page t p) l lv, ← lv) (fits-all t F p pl)
+  pub child-inside : (l p i : ℕ) → p < length (t .pages) → page t p .level ≡ suc l → i < length (page t p .entries) → getD (page t p .entries) i noEntry .r < length (t .pages)
+  child-inside l p i pl lv il = every-at (Fits (t .pages) (suc l)) (page t p .entries) noEntry (fits-above t F l p pl lv) i il .inside
 
   -- the root is no child
-  child-named : (l p i : ℕ) → p < length (t .pages) → page t p .level ≡ suc l → i < length (page t p .entries) → 1 ≤ named t (getD (page t p .entries) i noEntry .r)
-  child-named l p i pl lv il =
-      let c : ℕ = getD (page t p .entries) i noEntry .r in
-      omega (
-        arith,
-        sum-at (λ g. sum (is c) (childEntries g)) (t .pages) p noPage pl,
-        ap (sum (is c)) (above-children (page t p) l lv),
-        sum-at (is c) (page t p .entries) i noEntry il,
-        ap one (eqb-yes c c refl),
-      )
-
-  pub child-inside : (l p i : ℕ) → p < length (t .pages) → page t p .level ≡ suc l → i < length (page t p .entries) → getD (page t p .entries) i noEntry .r < length (t .pages)
-  child-inside l p i pl lv il = every-at (Fits (t .pages) (suc l)) (page t p .entries) noEntry (children-fit l p pl lv) i il .inside
-
-  root-unnamed : named t (t .root) ≡ 0
-  root-unnamed = F .once (t .root) (F .top) ∙ ap (λ b. cond b 0 1) (eqb-yes (t .root) (t .root) refl)
-
   pub not-root : (l p i : ℕ) → p < length (t .pages) → page t p .level ≡ suc l → i < length (page t p .entries) → getD (page t p .entries) i noEntry .r ≢ t .root
-  not-root l p i pl lv il e = omega (arith, child-named l p i pl lv il, ap (named t) e, root-unnamed)
+  not-root l p i pl lv il =
+      every-at (λ x. x .r ≢ t .root) (page t p .entries) noEntry (rw (above-children (page t p) l lv) at (root-free t F p pl)) i il
 
   named-one : (q : ℕ) → q < length (t .pages) → q ≢ t .root → named t q ≡ 1
-  named-one q ql n = F .once q ql ∙ ap (λ b. cond b 0 1) (eqb-no q (t .root) n)
+  named-one q ql n = F .once q ql ∙ ap (λ b. cond b 0 1) (ne-eqb q (t .root) n)
 
   -- a page but the root has an entry
   some-entry : (q : ℕ) → q < length (t .pages) → q ≢ t .root → 0 < length (page t q .entries)
   unfolding fewest
   some-entry q ql n =
-      let e : fewest t q ≡ 4 = rw (eqb-no q (t .root) n) in
+      let e : fewest t q ≡ 4 = rw (ne-eqb q (t .root) n) in
       omega (arith, F .enough q ql, e)
 
   -- so its bounds are a proper rectangle
@@ -95,13 +75,13 @@ module _ (t : Table) (F : Facts t) where
   bounds-proper (suc l) q ql lv n =
       let es : List Entry = page t q .entries in
       let il = some-entry q ql n in
-      let f = every-at (Fits (t .pages) (suc l)) es noEntry (children-fit l q ql lv) 0 il in
+      let f = every-at (Fits (t .pages) (suc l)) es noEntry (fits-above t F l q ql lv) 0 il in
       let b = bounds-proper l (getD es 0 noEntry .r) (f .inside) (omega (arith, f .lower)) (not-root l q 0 ql lv il) in
       around (getD es 0 noEntry .rect) (bounds es) (rw (f .exact) b) (every-at (λ x. Within (x .rect) (bounds es)) es noEntry (bounds-each es) 0 il)
 
   pub child-proper : (l p i : ℕ) → p < length (t .pages) → page t p .level ≡ suc l → i < length (page t p .entries) → Proper (getD (page t p .entries) i noEntry .rect)
   child-proper l p i pl lv il =
-      let f = every-at (Fits (t .pages) (suc l)) (page t p .entries) noEntry (children-fit l p pl lv) i il in
+      let f = every-at (Fits (t .pages) (suc l)) (page t p .entries) noEntry (fits-above t F l p pl lv) i il in
       rw (f .exact) (bounds-proper l (getD (page t p .entries) i noEntry .r) (f .inside) (omega (arith, f .lower)) (not-root l p i pl lv il))
 
   module _ (o : Rect → Bool) where
@@ -116,16 +96,8 @@ module _ (t : Table) (F : Facts t) where
           arith,
           sum-joined g (λ e. cond (o (e .rect)) (openedUnder o (t .pages) l (e .r)) []) (page t p .entries),
           sum-same (λ e. sum g (cond (o (e .rect)) (openedUnder o (t .pages) l (e .r)) [])) (λ e. cond (o (e .rect)) (sum g (openedUnder o (t .pages) l (e .r))) 0) (page t p .entries)
-              (every-entry _ (λ e. go (o (e .rect)) (openedUnder o (t .pages) l (e .r))) (page t p .entries)),
+              (every-entry _ (λ e. sum-cond g (o (e .rect)) (openedUnder o (t .pages) l (e .r))) (page t p .entries)),
         )
-      where
-        go : (b : Bool) (xs : List ℕ) → sum g (cond b xs []) ≡ cond b (sum g xs) 0
-        go true xs = refl
-        go false xs = refl
-
-    cond-add : (b : Bool) (n a c : ℕ) → n ≡ a + c → cond b n 0 ≡ cond b a 0 + cond b c 0
-    cond-add true n a c h = h
-    cond-add false n a c h = refl
 
     -- an opened page is the first one, or a child that an opened page opens
     opened-onward : (g : ℕ → ℕ) (l p : ℕ) → p < length (t .pages) → page t p .level ≡ l → sum g (openedUnder o (t .pages) l p) ≡ g p + sum (onward g) (openedUnder o (t .pages) l p)
@@ -135,8 +107,8 @@ module _ (t : Table) (F : Facts t) where
         let S : (ℕ → ℕ) → Entry → ℕ = λ f e. cond (o (e .rect)) (sum f (openedUnder o (t .pages) l (e .r))) 0 in
         let a = sum-same (S g) (λ e. cond (o (e .rect)) (g (e .r)) 0 + S (onward g) e) (page t p .entries)
         (every-map (Fits (t .pages) (suc l)) _
-        (λ e f. cond-add (o (e .rect)) (sum g (openedUnder o (t .pages) l (e .r))) (g (e .r)) (sum (onward g) (openedUnder o (t .pages) l (e .r))) (opened-onward g l (e .r) (f .inside) (omega (arith, f .lower))))
-        (page t p .entries) (children-fit l p pl lv)) in
+        (λ e f. ap (λ n. cond (o (e .rect)) n 0) (opened-onward g l (e .r) (f .inside) (omega (arith, f .lower))) ∙ cond-add (o (e .rect)) (g (e .r)) (sum (onward g) (openedUnder o (t .pages) l (e .r))))
+        (page t p .entries) (fits-above t F l p pl lv)) in
         omega (
           arith,
           opened-sum g l p,
@@ -150,7 +122,7 @@ module _ (t : Table) (F : Facts t) where
     unfolding openedUnder
     opened-below zero p pl lv = (pl, tt)
     opened-below (suc l) p pl lv =
-        (pl, each (page t p .entries) (every-map (Fits (t .pages) (suc l)) _ (λ e f. opened-below l (e .r) (f .inside) (omega (arith, f .lower))) (page t p .entries) (children-fit l p pl lv)))
+        (pl, each (page t p .entries) (every-map (Fits (t .pages) (suc l)) _ (λ e f. opened-below l (e .r) (f .inside) (omega (arith, f .lower))) (page t p .entries) (fits-above t F l p pl lv)))
       where
         choose : (b : Bool) (xs : List ℕ) → Every (λ x. x < length (t .pages)) xs → Every (λ x. x < length (t .pages)) (cond b xs [])
         choose true xs h = h
@@ -171,8 +143,7 @@ module _ (t : Table) (F : Facts t) where
     by-times : (f : ℕ → ℕ) (n : ℕ) (xs : List ℕ) → Every (λ x. x < n) xs → sum f xs ≡ sumBelow n (λ p. times p xs * f p)
     by-times f n [] h = sym (below-same n (λ p. 0 * f p) (λ p. 0) (λ p l. omega arith) ∙ (below-const n 0 ∙ omega arith))
     by-times f n (x ∷ xs) h =
-        let a : sumBelow n (λ p. one (eqb x p) * f p) ≡ f x =
-        below-same n (λ p. one (eqb x p) * f p) (λ p. cond (eqb p x) (f p) 0) (λ p l. ap (λ b. one b * f p) (eqb-sym x p) ∙ sym (is-times (eqb p x) (f p))) ∙ below-one n x f (h .0) in
+        let a = below-chosen n f x (h .0) in
         let b = below-same n (λ p. (one (eqb x p) + times p xs) * f p) (λ p. one (eqb x p) * f p + times p xs * f p) (λ p l. omega arith) in
         omega (arith, a, b, below-add n (λ p. one (eqb x p) * f p) (λ p. times p xs * f p), by-times f n xs (h .1))
 
@@ -187,24 +158,20 @@ module _ (t : Table) (F : Facts t) where
         let xs : List ℕ = openedPages o t in
         let g : ℕ → ℕ = λ x. one (eqb x c) in
         let a : times c xs ≡ g (t .root) + sum (onward g) xs = opened-onward g (page t (t .root) .level) (t .root) (F .top) refl in
-        let r : g (t .root) ≡ 0 = ap one (eqb-no (t .root) c (λ z. not-root l p i pl lv il (sym z))) in
+        let r : g (t .root) ≡ 0 = ap one (ne-eqb (t .root) c (λ z. not-root l p i pl lv il (sym z))) in
         let b : sum (onward g) xs ≡ sumBelow k (λ q. times q xs * onward g q) = by-times (onward g) k xs opened-inside in
         let n : sumBelow k (λ q. sum (is c) (childEntries (page t q))) ≡ 1 =
         sym (sum-places (λ h. sum (is c) (childEntries h)) (t .pages) noPage) ∙ named-one c (child-inside l p i pl lv il) (not-root l p i pl lv il) in
         let ch : childEntries (page t p) ≡ page t p .entries = above-children (page t p) l lv in
-        let one-here : is c e ≡ 1 = ap one (eqb-yes c c refl) in
+        let one-here : is c e ≡ 1 = ap one (eq-eqb c c refl) in
         let most : sum (is c) (page t p .entries) ≤ 1 = omega (arith, n, below-at k (λ q. sum (is c) (childEntries (page t q))) p pl, ap (sum (is c)) ch) in
         let here : sum (is c) (childEntries (page t p)) ≡ 1 = omega (arith, ap (sum (is c)) ch, most, sum-at (is c) (page t p .entries) i noEntry il, one-here) in
         let only = below-only k (λ q. times q xs * onward g q) (λ q. sum (is c) (childEntries (page t q))) p pl (λ q ql. small q ql c) (omega (arith, n)) here in
         let w : onward g p ≡ one (o (e .rect)) =
         ap (sum (λ x. cond (o (x .rect)) (g (x .r)) 0)) ch
-        ∙ (sum-only (λ x. cond (o (x .rect)) (g (x .r)) 0) (is c) (page t p .entries) noEntry i il (λ x. part (o (x .rect)) (g (x .r))) most one-here ∙ pass (o (e .rect)) (g c) one-here) in
+        ∙ (sum-only (λ x. cond (o (x .rect)) (g (x .r)) 0) (is c) (page t p .entries) noEntry i il (λ x. cond-le (o (x .rect)) (g (x .r))) most one-here ∙ pass (o (e .rect)) (g c) one-here) in
         omega (arith, a, r, b, only, ap (λ x. times p xs * x) w)
       where
-        part : (b : Bool) (n : ℕ) → cond b n 0 ≤ n
-        part true n = omega arith
-        part false n = omega arith
-
         pass : (b : Bool) (n : ℕ) → n ≡ 1 → cond b n 0 ≡ one b
         pass true n h = h
         pass false n h = refl
@@ -217,4 +184,4 @@ module _ (t : Table) (F : Facts t) where
         small : (q : ℕ) → q < length (t .pages) → (c : ℕ) → times q (openedPages o t) * onward (λ x. one (eqb x c)) q ≤ sum (is c) (childEntries (page t q))
         small q ql c =
             times-le (times q (openedPages o t)) (onward (λ x. one (eqb x c)) q) (sum (is c) (childEntries (page t q))) (opened-once t F o q ql)
-            (sum-le (λ x. cond (o (x .rect)) (one (eqb (x .r) c)) 0) (is c) (childEntries (page t q)) (every-entry _ (λ x. part (o (x .rect)) (is c x)) (childEntries (page t q))))
+            (sum-le (λ x. cond (o (x .rect)) (one (eqb (x .r) c)) 0) (is c) (childEntries (page t q)) (every-entry _ (λ x. cond-le (o (x .rect)) (is c x)) (childEntries (page t q))))

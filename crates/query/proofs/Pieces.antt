@@ -6,8 +6,8 @@ use mathlib.Core.Logic.{_↔_}
 use mathlib.Core.Bool.{Bool, true, false, cond}
 use mathlib.Core.List.{[]}
 use lib.ListN.{length, getD}
-use lib.Dec.{ltb}
-use borrow.Author.Tests.{lt-ltb, ltb-true, eqb-true}
+use lib.Dec.{ltb, eqb, ltb→lt, eqb→eq}
+use borrow.Author.Tests.{eqb-true, lt-ltb, eq-eqb}
 use Rattle.pages.specs.declared.Rect.{Rect}
 use Rattle.pages.specs.declared.Entry.{Entry}
 use Rattle.pages.specs.Sizes.{PIECES}
@@ -15,9 +15,9 @@ use Rattle.pages.specs.Lists.{one, sum}
 use Rattle.pages.specs.Layout.{Page, Table, noEntry, noPage, page}
 use Rattle.pages.specs.Sound.{leaf, pieceEntries, is}
 use Rattle.pages.proofs.Lists.{every-at, sum-at}
-use Rattle.pages.proofs.Below.{eqb-yes}
 use Rattle.pages.proofs.Facts.{Facts}
 use Rattle.pages.proofs.Entries.{leaf-pieces}
+use Rattle.pages.proofs.Below.{T-one}
 use Rattle.query.specs.Listing.{rising, admittedAs, listing}
 use Rattle.query.proofs.Members.{In, in-times, times-in, sum-some, rising-below, rising-order, rising-times}
 
@@ -42,14 +42,7 @@ weighs : (b : Bool) (n : ℕ) → 1 ≤ cond b n 0 → (b ≡ true) × (1 ≤ n)
 weighs true n h = (refl, h)
 weighs false n h = absurd (omega arith)
 
-one-true : (b : Bool) → 1 ≤ one b → b ≡ true
-one-true true h = refl
-one-true false h = absurd (omega arith)
-
 module _ (t : Table) (admit : Rect → Bool) (c : ℕ) where
-  weight : Entry → ℕ
-  weight e = cond (admit (e .rect)) (is c e) 0
-
   piece-found : 1 ≤ admittedAs admit t c → (r : Rect) × PieceAt t c r × (admit r ≡ true)
   piece-found h =
       let a = sum-some (λ g. sum (λ e. cond (admit (e .rect)) (is c e) 0) (pieceEntries g)) (t .pages) noPage h in
@@ -67,7 +60,7 @@ module _ (t : Table) (admit : Rect → Bool) (c : ℕ) where
           inside = a .1;
           level = lv;
           entry = omega (arith, b .1, ap length es);
-          number = ap (λ x. x .r) (sym at) ∙ eqb-true (getD (pieceEntries (page t p)) i noEntry .r) c (one-true _ (w .1));
+          number = ap (λ x. x .r) (sym at) ∙ eqb→eq (getD (pieceEntries (page t p)) i noEntry .r) c (T-one (eqb (getD (pieceEntries (page t p)) i noEntry .r) c) (w .1));
           rectangle = refl;
         },
         ap (λ x. admit (x .rect)) (sym at) ∙ w .0,
@@ -77,7 +70,7 @@ module _ (t : Table) (admit : Rect → Bool) (c : ℕ) where
   piece-weighs r m y =
       let es : pieceEntries (page t (m .leaf)) ≡ page t (m .leaf) .entries = leaf-pieces (page t (m .leaf)) (m .level) in
       let e : Entry = getD (page t (m .leaf) .entries) (m .place) noEntry in
-      let w : cond (admit (e .rect)) (is c e) 0 ≡ 1 = rw (m .rectangle, y) (ap one (eqb-yes (e .r) c (m .number))) in
+      let w : cond (admit (e .rect)) (is c e) 0 ≡ 1 = rw (m .rectangle, y) (ap one (eq-eqb (e .r) c (m .number))) in
       omega (
         arith,
         w,
@@ -92,7 +85,7 @@ module _ (t : Table) (F : Facts t) (admit : Rect → Bool) where
       let p : ℕ → Bool = λ x. ltb 0 (admittedAs admit t x) in
       let l : getD (rising n p) (m .place) 0 < n = every-at (λ x. x < n) (rising n p) 0 (rising-below p n) (m .place) (m .inside) in
       let k : c < n = omega (arith, l, m .holds) in
-      ltb-true 0 (admittedAs admit t c) (one-true (p c) (omega (arith, rising-times p n c k, in-times c (rising n p) m)))
+      ltb→lt 0 (admittedAs admit t c) (T-one (p c) (omega (arith, rising-times p n c k, in-times c (rising n p) m)))
 
   below-listed : (n c : ℕ) → c < n → 1 ≤ admittedAs admit t c → In c (rising n (λ x. ltb 0 (admittedAs admit t x)))
   below-listed n c l h =

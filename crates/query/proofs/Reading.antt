@@ -1,53 +1,22 @@
 -- The words of a page of a sound table are its entry count and its entries.
-use Prim.Native.Nat.{ℕ, zero, suc, _+_, _-_, _*_, _≤_, _<_}
+use Prim.Native.Nat.{ℕ, zero, suc, _-_, _≤_, _<_}
 use native.Mathlib.Omega.{arith}
 use mathlib.Core.Path.{_≡_, refl, sym, ap, _∙_}
 use mathlib.Core.Logic.{_≢_}
 use mathlib.Core.List.{List}
 use lib.ListN.{length, getD}
-use lib.Seq.{getD-take}
 use lib.Dec.{T}
-use Rattle.pages.specs.Sizes.{PAGE_HEAD, ENTRY_WORDS, PAGES, PIECES, TABLE_WORDS}
-use Rattle.pages.specs.Layout.{Page, noEntry, page, encodeEntry, encodePage, encode, pageWords, tableIn}
+use Rattle.pages.specs.Sizes.{PAGES, PIECES, TABLE_WORDS}
+use Rattle.pages.specs.Layout.{noEntry, page, pageWords, tableIn}
 use Rattle.pages.specs.Sound.{sound}
 use Rattle.pages.specs.Readers.{entryIn}
 use Rattle.pages.proofs.Lists.{every-at}
 use Rattle.pages.proofs.Facts.{Facts}
-use Rattle.pages.proofs.Whole.{sound-in, sound-is}
-use Rattle.pages.proofs.Cells.{entry-word, page-in}
-use Rattle.pages.proofs.Entries.{Fits, above-children, leaf-pieces, fits-all}
+use Rattle.pages.proofs.Whole.{sound-in}
+use Rattle.pages.proofs.Cells as cells
+use Rattle.pages.proofs.Entries.{Fits, leaf-pieces, fits-above}
+use Rattle.soundness.proofs.Words.{level-word, size-word}
 use Rattle.query.specs.Steps.{SoundPage}
-
-module _ (g : Page) (i : ℕ) (il : i < 8) where
-  word : (j : ℕ) → j < 5 → getD (encodePage g) (PAGE_HEAD + ENTRY_WORDS * i + j) 0 ≡ getD (encodeEntry (getD (g .entries) i noEntry)) j 0
-  word j jl =
-      let e : PAGE_HEAD + ENTRY_WORDS * i + j ≡ PAGE_HEAD + (ENTRY_WORDS * i + j) = omega arith in
-      rw e (entry-word g i j il jl)
-
-  entry-read : entryIn (encodePage g) i ≡ getD (g .entries) i noEntry
-  unfolding encodeEntry
-  entry-read = λ k. record {
-    rect = record {
-      x1 = word0 k;
-      y1 = word 1 (omega arith) k;
-      x2 = word 2 (omega arith) k;
-      y2 = word 3 (omega arith) k;
-    };
-    r = word 4 (omega arith) k;
-  }
-    where
-      word0 : getD (encodePage g) (PAGE_HEAD + ENTRY_WORDS * i) 0 ≡ getD (g .entries) i noEntry .rect .x1
-      word0 =
-          let e : PAGE_HEAD + ENTRY_WORDS * i ≡ PAGE_HEAD + ENTRY_WORDS * i + 0 = omega arith in
-          rw e (word 0 (omega arith))
-
-size-read : (g : Page) → getD (encodePage g) 1 0 ≡ length (g .entries)
-unfolding encodePage
-size-read g = refl
-
-level-read : (g : Page) → getD (encodePage g) 0 0 ≡ g .level
-unfolding encodePage
-level-read g = refl
 
 module _ (w : List ℕ) (p l : ℕ) (s : SoundPage w p l) where
   pub page-facts : Facts (tableIn w)
@@ -60,13 +29,13 @@ module _ (w : List ℕ) (p l : ℕ) (s : SoundPage w p l) where
   size-most = page-facts .eight p (s .inside)
 
   pub size-in : (v : List ℕ) → v ≡ pageWords w p → getD v 1 0 ≡ length (page (tableIn w) p .entries)
-  size-in v e = ap (λ x. getD x 1 0) (e ∙ page-in w p (s .words) (s .holds) page-few) ∙ size-read (page (tableIn w) p)
+  size-in v e = ap (λ x. getD x 1 0) e ∙ sym (size-word w (s .words) p (s .inside) (page-facts .most))
 
   pub level-in : (v : List ℕ) → v ≡ pageWords w p → getD v 0 0 ≡ page (tableIn w) p .level
-  level-in v e = ap (λ x. getD x 0 0) (e ∙ page-in w p (s .words) (s .holds) page-few) ∙ level-read (page (tableIn w) p)
+  level-in v e = ap (λ x. getD x 0 0) e ∙ sym (level-word w (s .words) p (s .inside) (page-facts .most))
 
   pub entry-in : (v : List ℕ) (i : ℕ) → v ≡ pageWords w p → i < length (page (tableIn w) p .entries) → entryIn v i ≡ getD (page (tableIn w) p .entries) i noEntry
-  entry-in v i e il = ap (λ x. entryIn x i) (e ∙ page-in w p (s .words) (s .holds) page-few) ∙ entry-read (page (tableIn w) p) i (omega (arith, size-most))
+  entry-in v i e il = ap (λ x. entryIn x i) (e ∙ cells.page-in w p (s .words) (s .holds) page-few) ∙ cells.entry-in (page (tableIn w) p) i (omega (arith, size-most))
 
   -- an entry above the leaves leads to a page one level lower
   pub child-page : (i : ℕ) → l ≢ 0 → i < length (page (tableIn w) p .entries) → SoundPage w (getD (page (tableIn w) p .entries) i noEntry .r) (l - 1)
@@ -76,7 +45,7 @@ module _ (w : List ℕ) (p l : ℕ) (s : SoundPage w p l) where
       go zero z e = absurd (z refl)
       go (suc m) z e =
           let f : Fits (tableIn w .pages) (suc m) (getD (page (tableIn w) p .entries) i noEntry) =
-          every-at (Fits (tableIn w .pages) (suc m)) (page (tableIn w) p .entries) noEntry (rw (← above-children (page (tableIn w) p) m e, ← e) (fits-all (tableIn w) page-facts p (s .inside))) i il in
+          every-at (Fits (tableIn w .pages) (suc m)) (page (tableIn w) p .entries) noEntry (fits-above (tableIn w) page-facts m p (s .inside) e) i il in
           record { words = s .words; holds = s .holds; inside = f .inside; level = omega (arith, f .lower) }
 
   -- an entry of a leaf holds a piece number
@@ -96,18 +65,3 @@ same-page w p q l e s = rw e s
 module _ (w : List ℕ) (words : TABLE_WORDS ≤ length w) (holds : T (sound w)) where
   pub own-page : (p : ℕ) → p < length (tableIn w .pages) → SoundPage w p (page (tableIn w) p .level)
   own-page p l = record { words = words; holds = holds; inside = l; level = refl }
-
-  head-word : (i : ℕ) → i < TABLE_WORDS → getD w i 0 ≡ getD (encode (tableIn w)) i 0
-  head-word i l = sym (getD-take TABLE_WORDS w i 0 l) ∙ ap (λ x. getD x i 0) (sym (sound-is w words holds))
-
-  pub pages-word : getD w 0 0 ≡ length (tableIn w .pages)
-  unfolding encode
-  pages-word = head-word 0 (omega arith)
-
-  pub root-word : getD w 1 0 ≡ tableIn w .root
-  unfolding encode
-  root-word = head-word 1 (omega arith)
-
-  pub count-word : getD w 2 0 ≡ tableIn w .count
-  unfolding encode
-  count-word = head-word 2 (omega arith)

@@ -2,7 +2,7 @@
 use Prim.Native.Nat.{ℕ, zero, suc, _+_, _≤_, _<_}
 use native.Mathlib.Omega.{arith}
 use mathlib.Core.Path.{_≡_, ap, ap₂, _∙_}
-use mathlib.Core.Bool.{Bool, true, false, cond}
+use mathlib.Core.Bool.{Bool, cond}
 use mathlib.Core.List.{List, []}
 use lib.ListN.{length}
 use lib.Seq.{sets}
@@ -13,8 +13,8 @@ use Rattle.pages.specs.Sizes.{TABLE_WORDS, PAGES}
 use Rattle.pages.specs.Lists.{one, sum}
 use Rattle.pages.specs.Layout.{Page, Table, pageAt, page, tableIn}
 use Rattle.pages.specs.Sound.{sound}
-use Rattle.pages.proofs.Lists.{sum-le, sum-length}
-use Rattle.pages.proofs.Below.{below-const}
+use Rattle.pages.proofs.Lists.{sum-le, sum-length, sum-cond}
+use Rattle.pages.proofs.Below.{below-const, cond-le}
 use Rattle.pages.proofs.Facts.{Facts}
 use Rattle.pages.proofs.Whole.{sound-in}
 use Rattle.pages.proofs.Visit.{seen, seen-root, seen-once}
@@ -30,12 +30,8 @@ opened-seen o g ps zero p = omega arith
 opened-seen o g ps (suc l) p =
     let a = sum-joined g (λ e. cond (o (e .rect)) (openedUnder o ps l (e .r)) []) (pageAt ps p .entries) in
     let b = sum-le (λ e. sum g (cond (o (e .rect)) (openedUnder o ps l (e .r)) [])) (λ e. seen g ps l (e .r)) (pageAt ps p .entries)
-    (every-entry _ (λ e. go (o (e .rect)) (openedUnder o ps l (e .r)) (seen g ps l (e .r)) (opened-seen o g ps l (e .r))) (pageAt ps p .entries)) in
+    (every-entry _ (λ e. omega (arith, sum-cond g (o (e .rect)) (openedUnder o ps l (e .r)), cond-le (o (e .rect)) (sum g (openedUnder o ps l (e .r))), opened-seen o g ps l (e .r))) (pageAt ps p .entries)) in
     omega (arith, a, b)
-  where
-    go : (b : Bool) (xs : List ℕ) (m : ℕ) → sum g xs ≤ m → sum g (cond b xs []) ≤ m
-    go true xs m h = h
-    go false xs m h = omega arith
 
 module _ (t : Table) (F : Facts t) (o : Rect → Bool) where
   pub opened-once : (q : ℕ) → q < length (t .pages) → times q (openedPages o t) ≤ 1

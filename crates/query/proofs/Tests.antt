@@ -3,7 +3,7 @@ use Prim.Native.Nat.{ℕ, zero, suc, _-_, _<_}
 use native.Mathlib.Omega.{arith}
 use mathlib.Core.Path.{_≡_, refl, ap, _∙_}
 use mathlib.Core.Logic.{_↔_}
-use mathlib.Core.Bool.{Bool, true, false, _&&_, and-false, false≢true}
+use mathlib.Core.Bool.{true, false, _&&_, and-false}
 use mathlib.Core.List.{List, [], _∷_}
 use lib.ListN.{getD}
 use lib.Dec.{T, leb, ltb, ltb→lt}
@@ -18,7 +18,7 @@ use Rattle.relations.proofs.Pages.{rows-have, page-test, may-hold, holds-inside
 use Rattle.pages.specs.declared.Rect.{Rect}
 use Rattle.pages.specs.Sizes.{EDGE}
 use Rattle.pages.specs.Rectangles.{valid}
-use Rattle.pages.proofs.Lists.{holds}
+use Rattle.pages.proofs.Lists.{true-T, T-true, holds}
 use Rattle.pages.proofs.Walk.{Within}
 use Rattle.query.specs.Admission.{codeY, codeX, admitsRect, opens}
 use Rattle.query.specs.Steps.{admitsBy, opensBy}
@@ -32,14 +32,6 @@ pub empty-below : (below : List ℕ) (cy cx : ℕ) → getD below (cy - 1) 0 ≡
 unfolding pageTest
 empty-below below cy cx e =
     none-below (λ k. inside cx (suc k) && bit (getD below (cy - 1) 0) k) CODES (λ k l. ap (λ b. inside cx (suc k) && b) (ap (λ r. bit r k) e ∙ bit-none k) ∙ and-false (inside cx (suc k)))
-
-pub is-true : (b : Bool) → T b → b ≡ true
-is-true true h = refl
-is-true false h = absurd h
-
-pub from-true : (b : Bool) → b ≡ true → T b
-from-true true e = tt
-from-true false e = absurd (false≢true e)
 
 pub admits-same : (clauses : List ℕ) (q : Rect) → admitsBy (rowSets clauses) q ≡ admitsRect clauses q
 unfolding admitsBy admitsRect
@@ -69,9 +61,9 @@ unfolding admitsRect opens
 reaches clauses q pq r s v w a =
     let pr = proper r v in
     let ps = around r s pr w in
-    from-true _
+    true-T _
     (holds-inside clauses (s .x1) (s .y1) (s .x2) (s .y2) (q .x1) (q .y1) (q .x2) (q .y2) (ps .on-x) (ps .on-y) (pq .on-x) (pq .on-y) (r .x1) (r .y1) (r .x2) (r .y2)
-    (w .left) (w .bottom) (pr .on-x) (pr .on-y) (w .right) (w .head) (is-true _ a))
+    (w .left) (w .bottom) (pr .on-x) (pr .on-y) (w .right) (w .head) (T-true _ a))
 
 pub set-refusal : (clauses : List ℕ) → admittedOf clauses .refusal ≡ refusalOf clauses
 unfolding admittedOf

@@ -4,12 +4,12 @@ use native.Mathlib.Omega.{arith}
 use native.Mathlib.Nat.{le-trans}
 use mathlib.Core.Path.{_≡_, refl, sym, ap, ap₂, _∙_}
 use mathlib.Core.Logic.{_≢_}
-use mathlib.Core.Bool.{Bool, true, false, cond}
+use mathlib.Core.Bool.{false}
 use mathlib.Core.List.{List, _++_}
 use lib.ListN.{length, take, drop, length-append, length-drop}
 use lib.Seq.{take-at, drop-at}
-use lib.Dec.{T, ltb, eqb}
-use borrow.Author.Tests.{ltb-false, le-ltb, ne-eqb}
+use lib.Dec.{T, eqb}
+use borrow.Author.Tests.{ne-eqb}
 use Rattle.pages.specs.declared.Rect.{Rect}
 use Rattle.pages.specs.Sizes.{TABLE_WORDS}
 use Rattle.pages.specs.Refusals.{ACCEPTED, TABLE_TOO_SHORT, TABLE_NOT_SOUND}
@@ -18,68 +18,38 @@ use Rattle.pages.specs.Sound.{sound}
 use Rattle.pages.proofs.Whole.{sound-in}
 use Rattle.soundness.specs.declared.Checked.{Checked}
 use Rattle.soundness.specs.Calls.{checkCall}
+use Rattle.soundness.proofs.Answers.{checked-refused, checked-passed}
 use Rattle.query.specs.declared.Answer.{Answer}
 use Rattle.query.specs.declared.Opened.{Opened}
 use Rattle.query.specs.Admission.{opens}
 use Rattle.query.specs.Calls.{soundRefusal, noAnswer, noOpened, queryOpened, querySound, queryCall, openedSound, openedCall, times, OpenedWords}
 use Rattle.query.specs.Steps.{openedListed}
-use Rattle.query.proofs.Tests.{from-true, is-true}
 use Rattle.query.proofs.Root.{opened-few}
 use Rattle.query.proofs.Calls.{accepted}
 
--- a table that check accepts, and one that it refuses
+-- a table that check refuses
 module _ (w : List ℕ) (k : Checked) (e : k ≡ checkCall w) where
-  pub checked-sound : k .refusal ≡ 0 → (TABLE_WORDS ≤ length w) × T (sound w)
-  unfolding checkCall
-  checked-sound z = go (ltb (length w) TABLE_WORDS) refl (sound w) refl (sym (ap (λ x. x .refusal) e) ∙ z)
-    where
-      go : (a : Bool) → ltb (length w) TABLE_WORDS ≡ a → (b : Bool) → sound w ≡ b
-          → cond {A = Checked} a (record { refusal = TABLE_TOO_SHORT; pieces = 0 }) (cond b (record { refusal = ACCEPTED; pieces = tableIn w .count }) (record { refusal = TABLE_NOT_SOUND; pieces = 0 })) .refusal ≡ 0
-          → (TABLE_WORDS ≤ length w) × T (sound w)
-      go true s b h x = absurd (omega arith)
-      go false s true h x = (ltb-false (length w) TABLE_WORDS s, from-true (sound w) h)
-      go false s false h x = absurd (omega arith)
-
-  module _ {A : Type 0} (refuse : ℕ → A) (go-on : A) where
-    checked-refused : k .refusal ≢ 0 → refuse (k .refusal) ≡ cond (ltb (length w) TABLE_WORDS) (refuse TABLE_TOO_SHORT) (cond (sound w) go-on (refuse TABLE_NOT_SOUND))
-    unfolding checkCall
-    checked-refused n = ap (λ x. refuse (x .refusal)) e ∙ go (ltb (length w) TABLE_WORDS) (sound w) (λ z. n (ap (λ x. x .refusal) e ∙ z))
-      where
-        answer : Bool → Bool → Checked
-        answer a b = cond a (record { refusal = TABLE_TOO_SHORT; pieces = 0 }) (cond b (record { refusal = ACCEPTED; pieces = tableIn w .count }) (record { refusal = TABLE_NOT_SOUND; pieces = 0 }))
-
-        go : (a b : Bool) → (answer a b .refusal ≡ 0 → ⊥) → refuse (answer a b .refusal) ≡ cond a (refuse TABLE_TOO_SHORT) (cond b go-on (refuse TABLE_NOT_SOUND))
-        go true b m = refl
-        go false true m = absurd (m refl)
-        go false false m = refl
-
   pub query-unchecked : (q : Rect) (clauses o : List ℕ) → k .refusal ≢ 0 → _≡_ {A = Answer × List ℕ} (noAnswer (k .refusal), o) (queryCall w q clauses o)
   unfolding queryCall
-  query-unchecked q clauses o n = checked-refused {A = Answer × List ℕ} (λ r. (noAnswer r, o)) (querySound w q clauses o) n
+  query-unchecked q clauses o n = checked-refused w k e {A = Answer × List ℕ} (λ r. (noAnswer r, o)) (querySound w q clauses o) n
 
   pub opened-unchecked : (q : Rect) (clauses o : List ℕ) → k .refusal ≢ 0 → OpenedWords w q clauses o o (noOpened (k .refusal))
   unfolding openedCall
   opened-unchecked q clauses o n = record {
-    result = checked-refused noOpened (openedSound w q clauses o) n;
+    result = checked-refused w k e noOpened (openedSound w q clauses o) n;
     listed = λ z. absurd (n z);
     rest = refl;
     size = refl;
   }
 
 module _ (w : List ℕ) (words : TABLE_WORDS ≤ length w) (holds : T (sound w)) (q : Rect) (clauses o : List ℕ) where
-  passed : {A : Type 0} (x y z : A) → y ≡ cond (ltb (length w) TABLE_WORDS) x (cond (sound w) y z)
-  passed x y z = go (ltb (length w) TABLE_WORDS) (sound w) (le-ltb (length w) TABLE_WORDS words) (is-true (sound w) holds)
-    where
-      go : (a b : Bool) → a ≡ false → b ≡ true → y ≡ cond a x (cond b y z)
-      go a b p r = rw (p, r)
-
-  pub query-whole : querySound w q clauses o ≡ queryCall w q clauses o
+  pub query-whole : queryCall w q clauses o ≡ querySound w q clauses o
   unfolding queryCall
-  query-whole = passed {A = Answer × List ℕ} (noAnswer TABLE_TOO_SHORT, o) (querySound w q clauses o) (noAnswer TABLE_NOT_SOUND, o)
+  query-whole = checked-passed w words holds {A = Answer × List ℕ} (noAnswer TABLE_TOO_SHORT, o) (querySound w q clauses o) (noAnswer TABLE_NOT_SOUND, o)
 
-  opened-whole : openedSound w q clauses o ≡ openedCall w q clauses o
+  opened-whole : openedCall w q clauses o ≡ openedSound w q clauses o
   unfolding openedCall
-  opened-whole = passed (noOpened TABLE_TOO_SHORT) (openedSound w q clauses o) (noOpened TABLE_NOT_SOUND)
+  opened-whole = checked-passed w words holds (noOpened TABLE_TOO_SHORT) (openedSound w q clauses o) (noOpened TABLE_NOT_SOUND)
 
   room : soundRefusal q clauses (length o) (length (tableIn w .pages)) ≡ 0 → length (queryOpened w q clauses) ≤ length o
   unfolding queryOpened
@@ -94,7 +64,7 @@ module _ (w : List ℕ) (words : TABLE_WORDS ≤ length w) (holds : T (sound w))
       l = queryOpened w q clauses
 
       is-result : r ≡ openedCall w q clauses o
-      is-result = ap (λ x. x .0) e ∙ opened-whole
+      is-result = ap (λ x. x .0) e ∙ sym opened-whole
 
       go : (n : ℕ) → soundRefusal q clauses (length o) (length (tableIn w .pages)) ≡ n → OpenedWords w q clauses o o′ r
       go zero z =

@@ -19,12 +19,17 @@ use Rattle.query.specs.Admission.{admitsRect, opens}
 use Rattle.query.specs.Opening.{openedPages}
 use Rattle.query.specs.Listing.{listing}
 
--- "query and opened pages 1, 6, 2, 4, 5, 8": of a sound table the last four, where the answer slice has `size` words and `needed` are asked
-unfoldable pub soundRefusal : Rect → List ℕ → ℕ → ℕ → ℕ
+-- "query and opened pages 1, 6, 2, 4, 5, 8": of a sound table the last four, where the clauses' own refusal is `clauses`, the answer
+-- slice has `size` words and `needed` are asked
+unfoldable pub refusalFrom : Rect → ℕ → ℕ → ℕ → ℕ
 unfolding valid
-soundRefusal q clauses size needed =
+refusalFrom q clauses size needed =
     cond (not (valid q)) RECTANGLE_NOT_VALID
-    (cond (eqb (refusalOf clauses) ACCEPTED) (cond (ltb size needed) ANSWER_TOO_SHORT ACCEPTED) (refusalOf clauses))
+    (cond (eqb clauses ACCEPTED) (cond (ltb size needed) ANSWER_TOO_SHORT ACCEPTED) clauses)
+
+unfoldable pub soundRefusal : Rect → List ℕ → ℕ → ℕ → ℕ
+unfolding refusalFrom
+soundRefusal q clauses size needed = refusalFrom q (refusalOf clauses) size needed
 
 -- "A refusal reports zero counts and changes no word"
 abbrev pub noAnswer : ℕ → Answer

@@ -1,6 +1,6 @@
 -- What the inner functions are held to: the tests on rows, the piece numbers that a walk meets, and marks as bits.
 use Prim.Native.Nat.{ℕ, zero, suc, _/_, _%_, _^_, _≤_, _<_}
-use mathlib.Core.Bool.{Bool, true, false, not, cond, _&&_, _||_}
+use mathlib.Core.Bool.{Bool, true, false, cond, _&&_, _||_}
 use mathlib.Core.Path.{_≡_}
 use mathlib.Core.List.{List, [], _∷_, _++_}
 use lib.ListN.{length, getD, drop, set}
@@ -11,8 +11,7 @@ use Rattle.relations.specs.Steps.{pageTest, rowsHave}
 use Rattle.pages.specs.declared.Rect.{Rect}
 use Rattle.pages.specs.declared.Entry.{Entry}
 use Rattle.pages.specs.Sizes.{TABLE_WORDS, PIECES}
-use Rattle.pages.specs.Rectangles.{valid}
-use Rattle.pages.specs.Refusals.{ACCEPTED, RECTANGLE_NOT_VALID, ANSWER_TOO_SHORT}
+use Rattle.pages.specs.Refusals.{ACCEPTED}
 use Rattle.pages.specs.Layout.{Page, Table, pageAt, page, tableIn}
 use Rattle.pages.specs.Sound.{sound}
 use Rattle.query.specs.declared.Opened.{Opened}
@@ -28,11 +27,6 @@ pub record SoundPage (w : List ℕ) (p l : ℕ) : Type 0 where
   pub holds : T (sound w)
   pub inside : p < length (tableIn w .pages)
   pub level : page (tableIn w) p .level ≡ l
-
--- the refusal of a call on a sound table, from that of its clauses
-unfoldable pub refusalFrom : Rect → ℕ → ℕ → ℕ → ℕ
-refusalFrom q clauses size needed =
-    cond (not (valid q)) RECTANGLE_NOT_VALID (cond (eqb clauses ACCEPTED) (cond (ltb size needed) ANSWER_TOO_SHORT ACCEPTED) clauses)
 
 -- p lies beyond q on one of its sides
 unfoldable pub beyond : Rect → Rect → Bool

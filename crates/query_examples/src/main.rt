@@ -7,18 +7,19 @@ mod tables;
 
 use libc::STDOUT_FILENO;
 use pages::Rect;
-use queries::CLAUSES;
 use queries::NINE_QUERIES;
-use queries::QUERY;
+use queries::QUERY_HEAD;
+use queries::QUERY_WORDS;
 use queries::REFUSED_QUERIES;
 use queries::SOME_QUERIES;
 use queries::THREE_LEVELS_QUERIES;
-use tables::NINE;
+use tables::NINE_PIECES;
 use tables::THREE_LEVELS;
 
-const ROOM: usize = 1_024;
+const ANSWER_WORDS: usize = 1_024;
 
-const LAST_WORD: usize = 14_324;
+// One word less than a table.
+const SHORT: usize = 14_324;
 
 // What the answer slice holds before each call.
 const BLANK: u16 = 7;
@@ -156,7 +157,7 @@ fn ask(name: &[u8], table: &[u32], reference: Rect, clauses: &[u64], answer: &mu
 }
 
 fn ask_one(name: &[u8], table: &[u32], list: &[u64], answer: &mut [u16]) {
-    if list.len() < QUERY {
+    if list.len() < QUERY_WORDS {
         return;
     }
     let reference = Rect {
@@ -165,14 +166,14 @@ fn ask_one(name: &[u8], table: &[u32], list: &[u64], answer: &mut [u16]) {
         x2: edge(list[2]),
         y2: edge(list[3]),
     };
-    let end = CLAUSES + few(list[4]);
-    ask(name, table, reference, &list[CLAUSES..end], answer);
+    let end = QUERY_HEAD + few(list[4]);
+    ask(name, table, reference, &list[QUERY_HEAD..end], answer);
 }
 
 fn ask_all(name: &[u8], table: &[u32], list: &[u64], answer: &mut [u16]) {
-    for q in 0..list.len() / QUERY {
-        let from = QUERY * q;
-        let end = from + QUERY;
+    for q in 0..list.len() / QUERY_WORDS {
+        let from = QUERY_WORDS * q;
+        let end = from + QUERY_WORDS;
         ask_one(name, table, &list[from..end], answer);
     }
 }
@@ -208,7 +209,7 @@ fn ask_refused(nine: &[u32], zeros: &[u32], answer: &mut [u16]) {
     ask_all(b"unsound", zeros, &SOME_QUERIES, answer);
     ask_all(
         b"short-table",
-        first_words(nine, LAST_WORD),
+        first_words(nine, SHORT),
         &SOME_QUERIES,
         answer,
     );
@@ -222,13 +223,13 @@ fn ask_tables(nine: &[u32], three: &[u32], zeros: &[u32], empty: &[u32], answer:
 }
 
 fn main() {
-    let mut answer = [0u16; ROOM];
+    let mut answer = [0u16; ANSWER_WORDS];
     let zeros = [0u32; pages::TABLE_WORDS];
     let mut empty = [0u32; pages::TABLE_WORDS];
     let mut nine = [0u32; pages::TABLE_WORDS];
     let mut three = [0u32; pages::TABLE_WORDS];
     pages::empty(&mut empty);
-    fill(&mut nine, &NINE);
+    fill(&mut nine, &NINE_PIECES);
     fill(&mut three, &THREE_LEVELS);
     ask_tables(&nine, &three, &zeros, &empty, &mut answer);
 }

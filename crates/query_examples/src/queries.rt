@@ -1,8 +1,9 @@
 // The queries, each as numbers in a row.
 // The numbers of one query: x1, y1, x2, y2, how many clauses, nine places for them.
-pub const QUERY: usize = 14;
+pub const QUERY_WORDS: usize = 14;
 
-pub const CLAUSES: usize = 5;
+// Those before the clauses.
+pub const QUERY_HEAD: usize = 5;
 
 pub const NINE_QUERIES: [u64; 140] = [
     80,

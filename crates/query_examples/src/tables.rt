@@ -1,6 +1,6 @@
 // The tables that the queries are asked of.
 // The words of a table that are not zero: each index before its value.
-pub const NINE: [u32; 94] = [
+pub const NINE_PIECES: [u32; 94] = [
     0,
     3,
     1,

@@ -6,7 +6,6 @@ use mathlib.Core.Path.{_≡_, refl, sym, ap, ap₂, _∙_}
 use Prim.Native.Nat.{ℕ, zero, suc, _+_, _-_, _/_, _%_, _^_, _≤_, _<_}
 use native.Mathlib.Nat.{not-suc-le-zero, pow-suc, div-one, zero-div}
 use native.Mathlib.Numerals.{one-add}
-use native.Mathlib.Decide.{ℕ-discrete}
 use native.Mathlib.Omega.{arith}
 use lib.Arith.{lt-one}
 use lib.Pow.{shr-shr}
@@ -16,7 +15,7 @@ use lib.Dec.{eqb, lit<}
 use lib.ListN.{length, getD}
 use lib.Seq.{ext-getD}
 use Rattle.relations.specs.Sets.{bit, digit, packed, total, someBelow, listed}
-use Rattle.relations.proofs.Tests.{and-left, and-right, or-left, or-right, both, same-test}
+use Rattle.relations.proofs.Tests.{and-left, and-right, both, same-test, none-at}
 
 -- ---- one bit
 
@@ -52,35 +51,27 @@ pub digit-le : (b : Bool) → digit b ≤ 1
 digit-le true = omega arith
 digit-le false = omega arith
 
-or-digits : (x y : ℕ) → x < 2 → y < 2 → eqb (bitOr x y) 1 ≡ (eqb x 1 || eqb y 1)
-or-digits zero zero a b = refl
-or-digits zero (suc zero) a b = refl
-or-digits (suc zero) zero a b = refl
-or-digits (suc zero) (suc zero) a b = refl
-or-digits zero (suc (suc y)) a b = absurd (omega arith)
-or-digits (suc zero) (suc (suc y)) a b = absurd (omega arith)
-or-digits (suc (suc x)) y a b = absurd (omega arith)
-
-and-digits : (x y : ℕ) → x < 2 → y < 2 → eqb (bitAnd x y) 1 ≡ (eqb x 1 && eqb y 1)
-and-digits zero zero a b = refl
-and-digits zero (suc zero) a b = refl
-and-digits (suc zero) zero a b = refl
-and-digits (suc zero) (suc zero) a b = refl
-and-digits zero (suc (suc y)) a b = absurd (omega arith)
-and-digits (suc zero) (suc (suc y)) a b = absurd (omega arith)
-and-digits (suc (suc x)) y a b = absurd (omega arith)
+-- what holds of two digits, by their four cases
+two-digits : (P : ℕ → ℕ → Type 0) → P 0 0 → P 0 1 → P 1 0 → P 1 1 → (x y : ℕ) → x < 2 → y < 2 → P x y
+two-digits P a b c d zero zero l m = a
+two-digits P a b c d zero (suc zero) l m = b
+two-digits P a b c d (suc zero) zero l m = c
+two-digits P a b c d (suc zero) (suc zero) l m = d
+two-digits P a b c d zero (suc (suc y)) l m = absurd (omega arith)
+two-digits P a b c d (suc zero) (suc (suc y)) l m = absurd (omega arith)
+two-digits P a b c d (suc (suc x)) y l m = absurd (omega arith)
 
 pub bit-or : (a b k : ℕ) → bit (bitOr a b) k ≡ (bit a k || bit b k)
 unfolding bit
 bit-or a b k =
     ap (λ (x : ℕ). eqb (x % 2) 1) (or-shr a b k) ∙ ap (λ (x : ℕ). eqb x 1) (or-mod (a / 2 ^ k) (b / 2 ^ k) 1)
-    ∙ or-digits (a / 2 ^ k % 2) (b / 2 ^ k % 2) (omega arith) (omega arith)
+    ∙ two-digits (λ x y. eqb (bitOr x y) 1 ≡ (eqb x 1 || eqb y 1)) refl refl refl refl (a / 2 ^ k % 2) (b / 2 ^ k % 2) (omega arith) (omega arith)
 
 pub bit-and : (a b k : ℕ) → bit (bitAnd a b) k ≡ (bit a k && bit b k)
 unfolding bit
 bit-and a b k =
     ap (λ (x : ℕ). eqb (x % 2) 1) (and-shr a b k) ∙ ap (λ (x : ℕ). eqb x 1) (and-mod (a / 2 ^ k) (b / 2 ^ k) 1)
-    ∙ and-digits (a / 2 ^ k % 2) (b / 2 ^ k % 2) (omega arith) (omega arith)
+    ∙ two-digits (λ x y. eqb (bitAnd x y) 1 ≡ (eqb x 1 && eqb y 1)) refl refl refl refl (a / 2 ^ k % 2) (b / 2 ^ k % 2) (omega arith) (omega arith)
 
 -- ---- `packed`
 
@@ -155,15 +146,6 @@ pub none-below : (f : ℕ → Bool) (n : ℕ) → ((k : ℕ) → k < n → f k �
 unfolding someBelow
 none-below f zero e = refl
 none-below f (suc n) e = ap₂ (λ (a b : Bool). a || b) (none-below f n (λ k h. e k (omega arith))) (e n (omega arith))
-
-pub none-at : (f : ℕ → Bool) (n k : ℕ) → someBelow f n ≡ false → k < n → f k ≡ false
-unfolding someBelow
-none-at f zero k t h = absurd (not-suc-le-zero h)
-none-at f (suc n) k t h = go (λ l. none-at f n k (or-left (someBelow f n) (f n) t) l) (ℕ-discrete k n)
-  where
-    go : (k < n → f k ≡ false) → Dec (k ≡ n) → f k ≡ false
-    go ih (yes e) = ap f e ∙ or-right (someBelow f n) (f n) t
-    go ih (no e) = ih (omega arith)
 
 pub some-at : (f : ℕ → Bool) (n k : ℕ) → k < n → f k ≡ true → someBelow f n ≡ true
 unfolding someBelow

@@ -8,31 +8,28 @@ use Prim.Native.Nat.{ℕ, suc, _+_, _-_, _<_, _≤_}
 use native.Mathlib.Decide.{decLt}
 use native.Mathlib.Omega.{arith}
 use lib.ListN.{getD}
+use borrow.Author.Tests.{not-true}
 use Rattle.relations.specs.Sets.{bit, someBelow}
 use Rattle.relations.specs.Axis.{CODES, IsCode, code}
 use Rattle.relations.specs.Nodes.{inside, mayHold}
-use Rattle.relations.specs.Steps.{AROUND, sideOf, joinedOf, pageTest, openAt, nearBy, rowsHave}
-use Rattle.relations.proofs.Tests.{allBelow, all-at, and-left, and-right, or-left, or-right}
-use Rattle.relations.proofs.Bits.{none-below, none-at}
+use Rattle.relations.specs.Steps.{AROUND, joinedOf, pageTest, openAt, nearBy, rowsHave}
+use Rattle.relations.proofs.Tests.{allBelow, all-at, none-at, and-left, and-right, or-left, or-right}
+use Rattle.relations.proofs.Bits.{none-below}
 use Rattle.relations.proofs.Sides.{Side, below, at, above, sided, side-above, side-below, code-above, code-below, code-suc}
 use Rattle.relations.proofs.Pages.{page-test}
 
 -- every code can stand inside a page around, and in a page of its own code
 around-test : allBelow (λ h. inside AROUND (suc h)) CODES ≡ true
-unfolding allBelow inside
+unfolding allBelow someBelow inside
 around-test = refl
 
 own-test : allBelow (λ h. inside (suc h) (suc h)) CODES ≡ true
-unfolding allBelow inside
+unfolding allBelow someBelow inside
 own-test = refl
 
 -- the second of two tests fails where the first holds and both together fail
 fails : {a b : Bool} → a ≡ true → (a && b) ≡ false → b ≡ false
 fails {b = b} p q = sym (ap (λ (x : Bool). x && b) p) ∙ q
-
-off : (b : Bool) → not b ≡ true → b ≡ false
-off true e = sym e
-off false e = refl
 
 module _ (rows : List ℕ) where
   cell : ℕ → ℕ → ℕ → Bool
@@ -104,9 +101,9 @@ apart p1 p2 q1 q2 o (inr h) = go (decLt p1 q2)
 module _ (rows : List ℕ) (near : nearBy (joinedOf rows) ≡ true) where
   shut : {c : ℕ} → Apart c → IsCode c × (openAt (joinedOf rows) c ≡ false)
   unfolding nearBy
-  shut after = (record { low = omega arith; high = omega arith }, off _ (and-left _ _ near))
-  shut touching = (record { low = omega arith; high = omega arith }, off _ (and-left _ _ (and-right (not (openAt (joinedOf rows) 1)) _ near)))
-  shut before = (record { low = omega arith; high = omega arith }, off _ (and-right (not (openAt (joinedOf rows) 2)) _ (and-right (not (openAt (joinedOf rows) 1)) _ near)))
+  shut after = (record { low = omega arith; high = omega arith }, not-true _ (and-left _ _ near))
+  shut touching = (record { low = omega arith; high = omega arith }, not-true _ (and-left _ _ (and-right (not (openAt (joinedOf rows) 1)) _ near)))
+  shut before = (record { low = omega arith; high = omega arith }, not-true _ (and-right (not (openAt (joinedOf rows) 2)) _ (and-right (not (openAt (joinedOf rows) 1)) _ near)))
 
   pub near-y : {c : ℕ} → Apart c → (d : ℕ) → pageTest (joinedOf rows) c d ≡ false
   near-y a d = shut-y rows _ d (shut a .0) (shut a .1)

@@ -16,8 +16,8 @@ use Rattle.relations.specs.Axis.{CODES, IsCode, code}
 use Rattle.relations.specs.Query.{admits, rowSet, rowSets}
 use Rattle.relations.specs.Nodes.{inside, nodeMask, mayHold, Quarter, QuarterRect}
 use Rattle.relations.specs.Steps.{joinedTo, joinedOf, nodeMasks, pageTest, rowsHave}
-use Rattle.relations.proofs.Tests.{and-left, and-right, both}
-use Rattle.relations.proofs.Bits.{bit-none, bit-or, bit-and, bit-packed, packed-lt, packed-of, packed-none, none-below, none-at, some-at, some-same, some-swap, found-below, listed-at, listed-same}
+use Rattle.relations.proofs.Tests.{and-left, and-right, both, none-at}
+use Rattle.relations.proofs.Bits.{bit-none, bit-or, bit-and, bit-packed, packed-lt, packed-of, packed-none, none-below, some-at, some-same, some-swap, found-below, listed-at, listed-same}
 use Rattle.relations.proofs.Sides.{is-code, code-suc, in-quarters, same-code}
 use Rattle.relations.proofs.Quarter.{quarter}
 

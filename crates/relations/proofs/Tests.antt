@@ -1,16 +1,18 @@
 -- Tests of the Bool: the parts of a conjunction, and what a passed test over 0 .. n - 1 says at each place.
 -- Assumes nothing.
-use mathlib.Core.Bool.{Bool, true, false, _&&_, _||_, Bool·beq, false≢true}
+use mathlib.Core.Bool.{Bool, true, false, not, _&&_, _||_, Bool·beq, false≢true}
 use mathlib.Core.Path.{_≡_, refl, sym, ap, _∙_}
 use Prim.Native.Nat.{ℕ, zero, suc, _<_}
 use native.Mathlib.Nat.{not-suc-le-zero}
 use native.Mathlib.Omega.{arith}
 use native.Mathlib.Decide.{ℕ-discrete}
+use borrow.Author.Tests.{not-true, not-false}
+use Rattle.relations.specs.Sets.{someBelow}
 
 -- the test passes at each k below n
 unfoldable pub allBelow : (ℕ → Bool) → ℕ → Bool
-allBelow f zero = true
-allBelow f (suc n) = allBelow f n && f n
+unfolding someBelow
+allBelow f n = not (someBelow (λ k. not (f k)) n)
 
 pub and-left : (a b : Bool) → (a && b) ≡ true → a ≡ true
 and-left true b e = refl
@@ -43,14 +45,18 @@ beq-eq true false e = sym e
 beq-eq false true e = e
 beq-eq false false e = refl
 
+pub none-at : (f : ℕ → Bool) (n k : ℕ) → someBelow f n ≡ false → k < n → f k ≡ false
+unfolding someBelow
+none-at f zero k t h = absurd (not-suc-le-zero h)
+none-at f (suc n) k t h = go (λ l. none-at f n k (or-left (someBelow f n) (f n) t) l) (ℕ-discrete k n)
+  where
+    go : (k < n → f k ≡ false) → Dec (k ≡ n) → f k ≡ false
+    go ih (yes e) = ap f e ∙ or-right (someBelow f n) (f n) t
+    go ih (no e) = ih (omega arith)
+
 pub all-at : (f : ℕ → Bool) (n k : ℕ) → allBelow f n ≡ true → k < n → f k ≡ true
 unfolding allBelow
-all-at f zero k t h = absurd (not-suc-le-zero h)
-all-at f (suc n) k t h = go (λ l. all-at f n k (and-left (allBelow f n) (f n) t) l) (ℕ-discrete k n)
-  where
-    go : (k < n → f k ≡ true) → Dec (k ≡ n) → f k ≡ true
-    go ih (yes e) = ap f e ∙ and-right (allBelow f n) (f n) t
-    go ih (no e) = ih (omega arith)
+all-at f n k t h = not-false (f k) (none-at (λ j. not (f j)) n k (not-true (someBelow (λ j. not (f j)) n) t) h)
 
 -- the same over pairs
 unfoldable pub allPairs : (ℕ → ℕ → Bool) → ℕ → ℕ → Bool

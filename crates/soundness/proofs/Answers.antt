@@ -7,15 +7,15 @@ use mathlib.Core.Logic.{_≢_}
 use mathlib.Core.Bool.{Bool, true, false, cond}
 use mathlib.Core.List.{List}
 use lib.ListN.{length, getD}
-use lib.Dec.{T}
+use lib.Dec.{T, ltb}
 use borrow.Author.Tests.{lt-ltb, le-ltb}
 use Rattle.pages.specs.Sizes.{TABLE_WORDS}
 use Rattle.pages.specs.Refusals.{ACCEPTED, TABLE_TOO_SHORT, TABLE_NOT_SOUND}
 use Rattle.pages.specs.Layout.{tableIn}
 use Rattle.pages.specs.Sound.{sound}
+use Rattle.pages.proofs.Lists.{true-T, T-true, false-T, T-false}
 use Rattle.soundness.specs.declared.Checked.{Checked}
 use Rattle.soundness.specs.Calls.{checkCall}
-use Rattle.soundness.proofs.Marks.{true-T, T-true, false-T, T-false}
 use Rattle.soundness.proofs.Words.{pieces-word}
 
 abbrev tooShort : Checked
@@ -60,12 +60,21 @@ answers w P a b c = go (decLt (length w) TABLE_WORDS)
 pub accepted : (w : List ℕ) → checkCall w .refusal ≡ ACCEPTED → (TABLE_WORDS ≤ length w) × T (sound w)
 accepted w = answers w (λ r. r .refusal ≡ ACCEPTED → (TABLE_WORDS ≤ length w) × T (sound w)) (λ l e. absurd (omega arith)) (λ l n e. absurd (omega arith)) (λ l s e. (l, s))
 
-pub refused-short : (w : List ℕ) → checkCall w .refusal ≡ TABLE_TOO_SHORT → length w < TABLE_WORDS
-refused-short w = answers w (λ r. r .refusal ≡ TABLE_TOO_SHORT → length w < TABLE_WORDS) (λ l e. l) (λ l n e. absurd (omega arith)) (λ l s e. absurd (omega arith))
-
-pub refused-unsound : (w : List ℕ) → checkCall w .refusal ≡ TABLE_NOT_SOUND → (TABLE_WORDS ≤ length w) × (T (sound w) → ⊥)
-refused-unsound w = answers w (λ r. r .refusal ≡ TABLE_NOT_SOUND → (TABLE_WORDS ≤ length w) × (T (sound w) → ⊥)) (λ l e. absurd (omega arith)) (λ l n e. (l, n)) (λ l s e. absurd (omega arith))
-
--- a refusal reports no pieces, and is 1 or 6
+-- a refusal reports no pieces
 pub refused-none : (w : List ℕ) → checkCall w .refusal ≢ ACCEPTED → checkCall w .pieces ≡ 0
 refused-none w = answers w (λ r. r .refusal ≢ ACCEPTED → r .pieces ≡ 0) (λ l n. refl) (λ l u n. refl) (λ l s n. absurd (n refl))
+
+-- a call that asks check first: it refuses as check does, and goes on where check accepts
+module _ (w : List ℕ) (c : Checked) (e : c ≡ checkCall w) where
+  pub checked-sound : c .refusal ≡ ACCEPTED → (TABLE_WORDS ≤ length w) × T (sound w)
+  checked-sound z = accepted w (ap (λ x. x .refusal) (sym e) ∙ z)
+
+  pub checked-refused : {A : Type 0} (refuse : ℕ → A) (go-on : A) → c .refusal ≢ ACCEPTED
+      → refuse (c .refusal) ≡ cond (ltb (length w) TABLE_WORDS) (refuse TABLE_TOO_SHORT) (cond (sound w) go-on (refuse TABLE_NOT_SOUND))
+  checked-refused refuse go-on n =
+      ap (λ x. refuse (x .refusal)) e
+      ∙ answers w (λ r. r .refusal ≢ ACCEPTED → refuse (r .refusal) ≡ cond (ltb (length w) TABLE_WORDS) (refuse TABLE_TOO_SHORT) (cond (sound w) go-on (refuse TABLE_NOT_SOUND)))
+      (λ l m. rw (lt-ltb (length w) TABLE_WORDS l)) (λ l u m. rw (le-ltb (length w) TABLE_WORDS l, T-false (sound w) u)) (λ l s m. absurd (m refl)) (λ z. n (ap (λ x. x .refusal) e ∙ z))
+
+pub checked-passed : (w : List ℕ) → TABLE_WORDS ≤ length w → T (sound w) → {A : Type 0} (x y z : A) → cond (ltb (length w) TABLE_WORDS) x (cond (sound w) y z) ≡ y
+checked-passed w l s x y z = rw (le-ltb (length w) TABLE_WORDS l, T-true (sound w) s)

@@ -4,7 +4,7 @@ use native.Mathlib.Omega.{arith}
 use native.Mathlib.Decide.{ℕ-discrete}
 use native.Mathlib.Numerals.{add-one}
 use mathlib.Core.Path.{_≡_, refl, sym, ap, _∙_}
-use mathlib.Core.Bool.{Bool, true, false, _&&_, and-true}
+use mathlib.Core.Bool.{Bool, true, false, _&&_, and-true, and-assoc}
 use mathlib.Core.List.{List, [], _∷_, _++_}
 use lib.ListN.{length, getD, take, drop, drop-of-length-le}
 use lib.Seq.{take-suc, take-all, drop-cons}
@@ -51,15 +51,7 @@ or-five a b c d e =
     ∙ ap (λ x. x && eqb e 0) (or-blank (bitOr (bitOr a b) c) d ∙ ap (λ x. x && eqb d 0) (or-blank (bitOr a b) c ∙ ap (λ x. x && eqb c 0) (or-blank a b)))
 
 and-five : (a b c d e z : Bool) → a && (b && (c && (d && (e && z)))) ≡ ((((a && b) && c) && d) && e) && z
-and-five true true true true e z = refl
-and-five true true true false e z = refl
-and-five true true false d e z = refl
-and-five true false c d e z = refl
-and-five false b c d e z = refl
-
-and-two : (a b c : Bool) → a && (b && c) ≡ (a && b) && c
-and-two true b c = refl
-and-two false b c = refl
+and-five a b c d e z = simp and-assoc
 
 zeros-entry : (w : List ℕ) (i : ℕ) → length w ≡ PAGE_WORDS → i < FANOUT → zeros (drop (PAGE_HEAD + ENTRY_WORDS * i) w) ≡ eqb (wordsOr (entryIn w i)) 0 && zeros (drop (PAGE_HEAD + ENTRY_WORDS * (i + 1)) w)
 zeros-entry w i s l =
@@ -77,7 +69,7 @@ zeros-entry w i s l =
 module _ (w : List ℕ) (s : length w ≡ PAGE_WORDS) (b : Bool) where
   pub tail-more : (i any : ℕ) (e : Entry) → i < FANOUT → e ≡ entryIn w i → b ≡ eqb any 0 && zeros (drop (PAGE_HEAD + ENTRY_WORDS * i) w) → b ≡ eqb (bitOr any (wordsOr e)) 0 && zeros (drop (PAGE_HEAD + ENTRY_WORDS * (i + 1)) w)
   tail-more i any e l q h = h ∙ (ap (λ z. eqb any 0 && z) (zeros-entry w i s l ∙ ap (λ x. eqb (wordsOr x) 0 && zeros (drop (PAGE_HEAD + ENTRY_WORDS * (i + 1)) w)) (sym q))
-      ∙ (and-two (eqb any 0) (eqb (wordsOr e) 0) (zeros (drop (PAGE_HEAD + ENTRY_WORDS * (i + 1)) w)) ∙ ap (λ x. x && zeros (drop (PAGE_HEAD + ENTRY_WORDS * (i + 1)) w)) (sym (or-blank any (wordsOr e)))))
+      ∙ (sym (and-assoc (eqb any 0) (eqb (wordsOr e) 0) (zeros (drop (PAGE_HEAD + ENTRY_WORDS * (i + 1)) w))) ∙ ap (λ x. x && zeros (drop (PAGE_HEAD + ENTRY_WORDS * (i + 1)) w)) (sym (or-blank any (wordsOr e)))))
 
   pub tail-done : (i any : ℕ) → FANOUT ≤ i → b ≡ eqb any 0 && zeros (drop (PAGE_HEAD + ENTRY_WORDS * i) w) → eqb any 0 ≡ b
   tail-done i any l h = sym (h ∙ (ap (λ x. eqb any 0 && zeros x) (drop-of-length-le w {i = PAGE_HEAD + ENTRY_WORDS * i} (omega arith)) ∙ and-true (eqb any 0)))

@@ -1,20 +1,20 @@
 -- The walk from the root and what it leaves decide whether the words are sound.
-use Prim.Native.Nat.{ℕ, zero, suc, _+_, _-_, _*_, _≤_, _<_}
+use Prim.Native.Nat.{ℕ, _+_, _-_, _*_, _≤_, _<_}
 use native.Mathlib.Omega.{arith}
-use mathlib.Core.Path.{_≡_, refl, sym, ap, subst, _∙_}
+use mathlib.Core.Path.{_≡_, sym, ap, subst, _∙_}
 use mathlib.Core.Bool.{Bool, true, false}
 use mathlib.Core.List.{List, _++_}
-use lib.ListN.{length, getD, take, drop, replicate, length-take, length-drop, take-append-drop}
+use lib.ListN.{length, getD, take, drop, length-take, length-drop, take-append-drop}
 use lib.Seq.{take-at, drop-append-le}
 use lib.Dec.{T}
 use Rattle.pages.specs.Sizes.{PIECES, PAGE_WORDS, TABLE_HEAD, PAGES, TABLE_WORDS, TOP_LEVEL}
 use Rattle.pages.specs.Layout.{page, pageWords, tableIn}
 use Rattle.pages.specs.Sound.{zeros, sound}
+use Rattle.pages.proofs.Lists.{true-T, T-true, false-T, T-false}
 use Rattle.pages.proofs.Below.{below-same}
 use Rattle.pages.proofs.Whole.{sound-in}
 use Rattle.soundness.specs.declared.Visit.{Visit}
 use Rattle.soundness.specs.Steps.{totalOf, visits, stores, Visited, rootFewest, Rooted}
-use Rattle.soundness.proofs.Marks.{true-T, T-true, false-T, T-false}
 use Rattle.soundness.proofs.Words.{pages-word, root-word, pieces-word, level-word}
 use Rattle.soundness.proofs.Counts.{all-one}
 use Rattle.soundness.proofs.Trees.{tree-sound}
@@ -71,12 +71,6 @@ module _ (w : List ℕ) (k root h : ℕ) (R : Rooted w k root h) (s₀ n₀ s₁
         go true z = sym (T-true (sound w) (tree-sound w k root h R (x .yes good .0) (once ts) stores-few
             (pieces-word w (R .long) ∙ (sym tn ∙ below-same PIECES (λ c. getD n₁ c 0) (stores w h root) stores-mark)) (true-T _ (sym z))))
         go false z = sym (T-false (sound w) (λ s. false-T _ (sym z) (subst (λ n. T (zeros (drop (TABLE_HEAD + PAGE_WORDS * n) (take TABLE_WORDS w)))) (sym (R .count)) (rest-zero w (R .long) s))))
-
--- marks at the start
-pub no-marks : (n q : ℕ) → getD {A = ℕ} (replicate n 0) q 0 ≡ 0
-no-marks zero q = refl
-no-marks (suc n) zero = refl
-no-marks (suc n) (suc q) = no-marks n q
 
 -- the tests before the walk
 module _ (w : List ℕ) (long : TABLE_WORDS ≤ length w) where

@@ -3,7 +3,6 @@ use Prim.Native.Nat.{ℕ, zero, suc, _+_, _≤_, _<_, min, max}
 use native.Mathlib.Omega.{arith}
 use native.Mathlib.Nat.{not-suc-le-zero}
 use native.Mathlib.Decide.{ℕ-discrete}
-use native.Mathlib.Numerals.{add-one}
 use mathlib.Core.Path.{_≡_, refl, sym, ap, subst, _∙_}
 use mathlib.Core.List.{List, [], _∷_, _++_}
 use Rattle.pages.specs.declared.Rect.{Rect}
@@ -12,16 +11,13 @@ use Rattle.pages.specs.Lists.{sum}
 use Rattle.pages.specs.Rectangles.{widen, widenAll, bounds}
 use Rattle.pages.specs.Readers.{entryIn, entriesIn}
 use Rattle.pages.proofs.Lists.{Every, every-append, sum-append}
+use Rattle.pages.proofs.Bounds.{widen-last, entries-more}
 
 every-split : (P : Entry → Type 0) (xs ys : List Entry) → Every P (xs ++ ys) → Every P xs × Every P ys
 every-split P [] ys h = (tt, h)
 every-split P (x ∷ xs) ys h = ((h .0, every-split P xs ys (h .1) .0), every-split P xs ys (h .1) .1)
 
 module _ (w : List ℕ) where
-  entries-more : (i : ℕ) → entriesIn w (i + 1) ≡ entriesIn w i ++ (entryIn w i ∷ [])
-  unfolding entriesIn
-  entries-more i = rw (add-one i)
-
   pub every-more : (P : Entry → Type 0) (i : ℕ) → Every P (entriesIn w i) → P (entryIn w i) → Every P (entriesIn w (i + 1))
   every-more P i h k = rw entries-more (every-append P (entriesIn w i) (entryIn w i ∷ []) h (k, tt))
 
@@ -57,11 +53,6 @@ widen-self r = λ i. record { x1 = low (r .x1) i; y1 = low (r .y1) i; x2 = high 
 
     high : (n : ℕ) → max n n ≡ n
     high n = omega arith
-
-widen-last : (r : Rect) (es : List Entry) (e : Entry) → widenAll r (es ++ (e ∷ [])) ≡ widen (widenAll r es) (e .rect)
-unfolding widenAll
-widen-last r [] e = refl
-widen-last r (x ∷ es) e = widen-last (widen r (x .rect)) es e
 
 -- a list that begins with e
 widen-first : (e : Entry) (es : List Entry) → widenAll (e .rect) (e ∷ es) ≡ bounds (e ∷ es)

@@ -9,8 +9,8 @@ use Rattle.pages.specs.Sizes.{PAGE_HEAD, FANOUT, ENTRY_WORDS, PAGES, TABLE_WORD
 use Rattle.pages.specs.Layout.{page, pageWords, tableIn}
 use Rattle.pages.specs.Readers.{entriesIn}
 use Rattle.pages.specs.Sound.{zeros}
+use Rattle.pages.proofs.Lists.{true-T, false-T}
 use Rattle.soundness.specs.Steps.{Head}
-use Rattle.soundness.proofs.Marks.{true-T, false-T}
 use Rattle.soundness.proofs.Words.{level-word, size-word, entries-words}
 
 module _ (w : List ℕ) (l m p : ℕ) (pg : List ℕ) (long : TABLE_WORDS ≤ length w) (pl : p < length (tableIn w .pages)) (most : length (tableIn w .pages) ≤ PAGES) (is : pg ≡ pageWords w p) where

@@ -12,10 +12,10 @@ use Rattle.pages.specs.Lists.{sum}
 use Rattle.pages.specs.Rectangles.{widen, widenAll, bounds}
 use Rattle.pages.specs.Readers.{entryIn, entriesIn}
 use Rattle.pages.specs.Sound.{is}
-use Rattle.pages.proofs.Lists.{Every}
+use Rattle.pages.proofs.Lists.{not-both, Every}
 use Rattle.pages.proofs.Bounds.{length-entries}
 use Rattle.soundness.specs.Steps.{Adds, Piece, Tested, Leafed}
-use Rattle.soundness.proofs.Marks.{not-both, adds-none, adds-more, room-left}
+use Rattle.soundness.proofs.Marks.{adds-none, adds-more, room-left}
 use Rattle.soundness.proofs.Entries.{every-more, sum-more, every-entry, sum-entry, widen-more, widen-done}
 
 module _ (w g₀ : List ℕ) (b₀ : Rect) where

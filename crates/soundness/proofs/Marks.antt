@@ -8,28 +8,11 @@ use mathlib.Core.Bool.{Bool, true, false}
 use mathlib.Core.List.{List}
 use lib.ListN.{length, getD, set}
 use lib.Seq.{getD-set-same, getD-set-other}
-use lib.Dec.{T, eqb}
+use lib.Dec.{eqb}
 use borrow.Author.Tests.{eqb-true, eqb-false, eq-eqb, ne-eqb}
 use Rattle.pages.specs.Lists.{one, sumBelow}
+use Rattle.pages.proofs.Lists.{not-both}
 use Rattle.soundness.specs.Steps.{Adds, Room, Tested}
-
-pub not-both : (b : Bool) → b ≡ true → b ≡ false → ⊥
-not-both b x y = let z : _≡_ {A = ℕ} 0 1 = cc in omega arith
-
-pub true-T : (b : Bool) → b ≡ true → T b
-true-T true e = tt
-true-T false e = absurd (not-both false e refl)
-
-pub T-true : (b : Bool) → T b → b ≡ true
-T-true true h = refl
-T-true false h = absurd h
-
-pub false-T : (b : Bool) → b ≡ false → T b → ⊥
-false-T b e h = not-both b (T-true b h) e
-
-pub T-false : (b : Bool) → (T b → ⊥) → b ≡ false
-T-false true n = absurd (n tt)
-T-false false n = refl
 
 -- one mark
 module _ (n : ℕ) (h h′ : List ℕ) (i : ℕ) where

@@ -12,18 +12,18 @@ use Rattle.pages.specs.Sizes.{PIECES, PAGE_HEAD, ENTRY_WORDS, PAGE_WORDS, TABLE
 use Rattle.pages.specs.Lists.{one, sumBelow}
 use Rattle.pages.specs.Rectangles.{valid}
 use Rattle.pages.specs.Layout.{page, pageWords, tableIn}
-use Rattle.pages.specs.Sound.{childEntries, pieceEntries, is, stored, fewest, soundTable, zeros, soundBlank, sound}
+use Rattle.pages.specs.Sound.{pieceEntries, is, stored, fewest, soundTable, zeros, soundBlank, sound}
 use Rattle.pages.proofs.Lists.{both, Holds, holds, all-below, every-map, every-both}
 use Rattle.pages.proofs.Below.{below-same, below-const, below-none, below-one}
 use Rattle.pages.proofs.Facts.{Facts}
 use Rattle.pages.proofs.Whole.{sound-in}
-use Rattle.pages.proofs.Entries.{Fits, leaf-pieces, above-children, fits-all}
+use Rattle.pages.proofs.Counting.{stored-sum}
+use Rattle.pages.proofs.Entries.{Fits, leaf-pieces, fits-above}
 use Rattle.pages.proofs.Walk.{under, under-root}
 use Rattle.pages.proofs.Visit.{seen, highest, seen-root}
 use Rattle.soundness.specs.Steps.{Adds, Room, totalOf, visits, stores, Piece, Head, Tree, rootFewest, Rooted}
 use Rattle.soundness.proofs.Words.{first-word, pages-word, pieces-word, tail-words}
 use Rattle.soundness.proofs.Walks.{Child}
-use Rattle.soundness.proofs.Counts.{stored-sum}
 
 module _ (w : List ℕ) (long : TABLE_WORDS ≤ length w) (s : T (sound w)) where
   F : Facts (tableIn w)
@@ -57,10 +57,11 @@ module _ (w : List ℕ) (long : TABLE_WORDS ≤ length w) (s : T (sound w)) wher
   )
   sound-tree (suc l) p pl e = (
     sound-head (suc l) p pl e,
-    rw (← above-children (page (tableIn w) p) l e) (every-map (Fits (tableIn w .pages) (page (tableIn w) p .level)) (Child w l) (λ x f. child x f (omega (arith, e, f .lower)) (sound-tree l (x .r) (f .inside))) (childEntries (page (tableIn w) p)) (fits-all (tableIn w) F p pl)),
+    every-map (Fits (tableIn w .pages) (suc l)) (Child w l) (λ x f. child x f (omega (arith, f .lower)) (sound-tree l (x .r) (f .inside))) (page (tableIn w) p .entries)
+        (fits-above (tableIn w) F l p pl e),
   )
     where
-      child : (x : Entry) → Fits (tableIn w .pages) (page (tableIn w) p .level) x → page (tableIn w) (x .r) .level ≡ l
+      child : (x : Entry) → Fits (tableIn w .pages) (suc l) x → page (tableIn w) (x .r) .level ≡ l
           → (page (tableIn w) (x .r) .level ≡ l → Tree w l (fewest (tableIn w) (x .r)) (x .r)) → Child w l x
       child x f b r = (subst (λ m. Tree w l m (x .r)) (not-root l p (x .r) pl e b) (r b), f .exact)
 
@@ -71,11 +72,14 @@ module _ (w : List ℕ) (k root h : ℕ) (R : Rooted w k root h) (s : T (sound w
       let e : fewest (tableIn w) root ≡ rootFewest h = rw (eq-eqb root (tableIn w .root) (R .is), ← R .at) in
       subst (λ m. Tree w h m root) e (sound-tree w (R .long) s h root (omega (arith, R .below, R .count)) (sym (R .at)))
 
+  -- what holds of the table's root, by the words
+  from-root : (P : ℕ → ℕ → Type 0) → P (page (tableIn w) (tableIn w .root) .level) (tableIn w .root) → P h root
+  from-root P x = subst (λ l. P l root) (sym (R .at)) (subst (λ p. P (page (tableIn w) p .level) p) (sym (R .is)) x)
+
   visits-are : (q : ℕ) → visits w h root q ≡ sumBelow (length (tableIn w .pages)) (λ x. one (eqb x q))
   visits-are q =
-      subst (λ l. seen (λ x. one (eqb x q)) (tableIn w .pages) l root ≡ sumBelow (length (tableIn w .pages)) (λ x. one (eqb x q))) (sym (R .at))
-      (subst (λ d. seen (λ x. one (eqb x q)) (tableIn w .pages) (page (tableIn w) d .level) d ≡ sumBelow (length (tableIn w .pages)) (λ x. one (eqb x q))) (sym (R .is))
-      (seen-root (tableIn w) (F w (R .long) s) (λ x. one (eqb x q))))
+      from-root (λ l p. seen (λ x. one (eqb x q)) (tableIn w .pages) l p ≡ sumBelow (length (tableIn w .pages)) (λ x. one (eqb x q)))
+      (seen-root (tableIn w) (F w (R .long) s) (λ x. one (eqb x q)))
 
   visits-one : (q : ℕ) → q < k → visits w h root q ≡ 1
   visits-one q ql = visits-are q ∙ below-one (length (tableIn w .pages)) q (λ x. 1) (omega (arith, R .count))
@@ -88,9 +92,7 @@ module _ (w : List ℕ) (k root h : ℕ) (R : Rooted w k root h) (s : T (sound w
       go (no a) = omega (arith, visits-are q, below-none (length (tableIn w .pages)) q (λ x. 1) (omega (arith, R .count)))
 
   stores-are : (c : ℕ) → stores w h root c ≡ stored (tableIn w) c
-  stores-are c =
-      subst (λ l. under (is c) (tableIn w .pages) l root ≡ stored (tableIn w) c) (sym (R .at))
-      (subst (λ d. under (is c) (tableIn w .pages) (page (tableIn w) d .level) d ≡ stored (tableIn w) c) (sym (R .is)) (under-root (tableIn w) (F w (R .long) s) (is c)))
+  stores-are c = from-root (λ l p. under (is c) (tableIn w .pages) l p ≡ stored (tableIn w) c) (under-root (tableIn w) (F w (R .long) s) (is c))
 
   module _ (m₀ : List ℕ) (none : (q : ℕ) → getD m₀ q 0 ≡ 0) where
     pub room-pages : Room PAGES m₀ (visits w h root)

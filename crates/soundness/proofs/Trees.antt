@@ -2,7 +2,7 @@
 use Prim.Native.Nat.{ℕ, zero, suc, _+_, _*_, _≤_, _<_}
 use native.Mathlib.Omega.{arith}
 use native.Mathlib.Decide.{ℕ-discrete, decLt}
-use mathlib.Core.Path.{_≡_, sym, ap, subst, _∙_}
+use mathlib.Core.Path.{_≡_, refl, sym, ap, subst, _∙_}
 use mathlib.Core.Logic.{_≢_}
 use mathlib.Core.List.{List, [], _∷_}
 use lib.ListN.{length, getD, take, drop}
@@ -12,17 +12,18 @@ use Rattle.pages.specs.declared.Entry.{Entry}
 use Rattle.pages.specs.Sizes.{PIECES, PAGE_WORDS, TABLE_HEAD, PAGES, TABLE_WORDS, TOP_LEVEL, FEWEST}
 use Rattle.pages.specs.Lists.{one, allOf, sum, sumBelow}
 use Rattle.pages.specs.Rectangles.{valid, bounds}
-use Rattle.pages.specs.Layout.{page, tableIn}
+use Rattle.pages.specs.Layout.{noPage, page, tableIn}
 use Rattle.pages.specs.Sound.{childEntries, pieceEntries, is, stored, fewest, soundTable, zeros, soundBlank, sound}
 use Rattle.pages.proofs.Lists.{and, all-of, below-all, Every, every-map}
-use Rattle.pages.proofs.Below.{below-same}
+use Rattle.pages.proofs.Below.{below-same, sum-places}
 use Rattle.pages.proofs.Facts.{Facts, sound-of}
+use Rattle.pages.proofs.Counting.{stored-sum}
 use Rattle.pages.proofs.Entries.{leaf-children, leaf-pieces, above-children, above-pieces}
-use Rattle.pages.proofs.Visit.{seen, named-once}
+use Rattle.pages.proofs.Visit.{seen, seen-all, named-once}
 use Rattle.soundness.specs.Steps.{visits, stores, Piece, Head, Tree, rootFewest, Rooted}
 use Rattle.soundness.proofs.Words.{first-word, pages-word, tail-words}
 use Rattle.soundness.proofs.Walks.{Child, tree-head}
-use Rattle.soundness.proofs.Counts.{stored-sum, under-all}
+use Rattle.soundness.proofs.Counts.{under-seen}
 
 -- a tree with page q at its top
 record Found (w : List ℕ) (m q : ℕ) : Type 0 where
@@ -55,23 +56,20 @@ module _ (w : List ℕ) where
 
   -- what a tree says of its first page
   module _ (p : ℕ) where
-    tree-lower : (l m : ℕ) → Tree w l m p → Every (λ e. page (tableIn w) p .level ≡ suc (page (tableIn w) (e .r) .level)) (childEntries (page (tableIn w) p))
+    tree-children : (P : Entry → Type 0) (l m : ℕ) → Tree w l m p → ((k : ℕ) → l ≡ suc k → (e : Entry) → Child w k e → P e) → Every P (childEntries (page (tableIn w) p))
     unfolding Tree
-    tree-lower zero m t = rw (leaf-children (page (tableIn w) p) (t .0 .level)) tt
-    tree-lower (suc l) m t = rw (above-children (page (tableIn w) p) l (t .0 .level))
-        (every-map (Child w l) (λ e. page (tableIn w) p .level ≡ suc (page (tableIn w) (e .r) .level)) (λ e c. t .0 .level ∙ ap suc (sym (tree-head w l FEWEST (e .r) (c .0) .level))) (page (tableIn w) p .entries) (t .1))
+    tree-children P zero m t f = rw (leaf-children (page (tableIn w) p) (t .0 .level)) tt
+    tree-children P (suc l) m t f = rw (above-children (page (tableIn w) p) l (t .0 .level)) (every-map (Child w l) P (f l refl) (page (tableIn w) p .entries) (t .1))
+
+    tree-lower : (l m : ℕ) → Tree w l m p → Every (λ e. page (tableIn w) p .level ≡ suc (page (tableIn w) (e .r) .level)) (childEntries (page (tableIn w) p))
+    tree-lower l m t = tree-children (λ e. page (tableIn w) p .level ≡ suc (page (tableIn w) (e .r) .level)) l m t
+        (λ k z e c. tree-head w l m p t .level ∙ (z ∙ ap suc (sym (tree-head w k FEWEST (e .r) (c .0) .level))))
 
     tree-inside : (l m : ℕ) → Tree w l m p → Every (λ e. e .r < length (tableIn w .pages)) (childEntries (page (tableIn w) p))
-    unfolding Tree
-    tree-inside zero m t = rw (leaf-children (page (tableIn w) p) (t .0 .level)) tt
-    tree-inside (suc l) m t = rw (above-children (page (tableIn w) p) l (t .0 .level))
-        (every-map (Child w l) (λ e. e .r < length (tableIn w .pages)) (λ e c. tree-head w l FEWEST (e .r) (c .0) .inside) (page (tableIn w) p .entries) (t .1))
+    tree-inside l m t = tree-children (λ e. e .r < length (tableIn w .pages)) l m t (λ k z e c. tree-head w k FEWEST (e .r) (c .0) .inside)
 
     tree-exact : (l m : ℕ) → Tree w l m p → Every (λ e. e .rect ≡ bounds (page (tableIn w) (e .r) .entries)) (childEntries (page (tableIn w) p))
-    unfolding Tree
-    tree-exact zero m t = rw (leaf-children (page (tableIn w) p) (t .0 .level)) tt
-    tree-exact (suc l) m t = rw (above-children (page (tableIn w) p) l (t .0 .level))
-        (every-map (Child w l) (λ e. e .rect ≡ bounds (page (tableIn w) (e .r) .entries)) (λ e c. c .1) (page (tableIn w) p .entries) (t .1))
+    tree-exact l m t = tree-children (λ e. e .rect ≡ bounds (page (tableIn w) (e .r) .entries)) l m t (λ k z e c. c .1)
 
     tree-pieces : (l m : ℕ) → Tree w l m p → Every Piece (pieceEntries (page (tableIn w) p))
     unfolding Tree
@@ -129,20 +127,20 @@ module _ (w : List ℕ) (k root h : ℕ) (R : Rooted w k root h) (t : Tree w h (
   numbers : (q : ℕ) → q < length (tableIn w .pages) → Every (λ e. e .r < PIECES) (pieceEntries (page (tableIn w) q))
   numbers q ql = every-map Piece (λ e. e .r < PIECES) (λ e z. z .1) (pieceEntries (page (tableIn w) q)) (pieces-good q ql)
 
+  top : tableIn w .root < length (tableIn w .pages)
+  top = omega (arith, R .below, R .count, R .is)
+
   stored-is : (c : ℕ) → stored (tableIn w) c ≡ stores w h root c
-  stored-is c = sym (under-all w (is c) h (rootFewest h) root t once)
+  stored-is c =
+      let r : Head w h (rootFewest h) root = tree-head w h (rootFewest h) root t in
+      sum-places (λ g. sum (is c) (pieceEntries g)) (tableIn w .pages) noPage
+      ∙ (sym (seen-all (tableIn w) top lower inside (λ q. sum (is c) (pieceEntries (page (tableIn w) q))) h root (r .inside) (r .level) once) ∙ sym (under-seen w (is c) h (rootFewest h) root t))
 
   below : (q : ℕ) → q < getD (take TABLE_WORDS w) 0 0 → q < length (tableIn w .pages)
   below q ql = omega (arith, ql, pages-word w (R .long), first-word w)
 
   most : length (tableIn w .pages) ≤ PAGES
   most = omega (arith, R .most, R .count)
-
-  top : tableIn w .root < length (tableIn w .pages)
-  top = omega (arith, R .below, R .count, R .is)
-
-  some : 1 ≤ length (tableIn w .pages)
-  some = omega (arith, top)
 
   levels : (q : ℕ) → q < length (tableIn w .pages) → page (tableIn w) q .level ≤ 4
   levels q ql = omega (arith, head q ql .level, good-page q ql .low)
@@ -153,7 +151,6 @@ module _ (w : List ℕ) (k root h : ℕ) (R : Rooted w k root h) (t : Tree w h (
   -- the facts
   tree-facts : ((c : ℕ) → c < PIECES → stores w h root c ≤ 1) → tableIn w .count ≡ sumBelow PIECES (stores w h root) → Facts (tableIn w)
   tree-facts one-each count = record {
-    some = some;
     most = most;
     top = top;
     levels = levels;

@@ -15,26 +15,26 @@ use Rattle.pages.specs.Lists.{one, sum}
 use Rattle.pages.specs.Rectangles.{sameRect, widen, widenAll, bounds}
 use Rattle.pages.specs.Layout.{page, tableIn}
 use Rattle.pages.specs.Readers.{entryIn, entriesIn}
-use Rattle.pages.proofs.Lists.{both, Every}
+use Rattle.pages.proofs.Lists.{not-both, true-T, T-true, false-T, both, Every}
 use Rattle.pages.proofs.Facts.{same-rect, rect-same}
 use Rattle.pages.proofs.Bounds.{length-entries}
 use Rattle.pages.proofs.Walk.{under}
 use Rattle.pages.proofs.Visit.{seen}
 use Rattle.soundness.specs.declared.Visit.{Visit}
-use Rattle.soundness.specs.Steps.{Adds, Room, visits, stores, Head, Tree, Tested, Leafed, Visited, joinedOf}
-use Rattle.soundness.proofs.Marks.{not-both, true-T, T-true, false-T, adds-none, adds-more, room-left}
+use Rattle.soundness.specs.Steps.{Adds, Room, visits, stores, Head, Tree, Tested, Leafed, Visited, withChild}
+use Rattle.soundness.proofs.Marks.{adds-none, adds-more, room-left}
 use Rattle.soundness.proofs.Entries.{every-more, sum-more, every-entry, sum-entry, widen-more, widen-done}
 
-pub joined-not : (a v : Visit) (r b : Rect) → v .good ≡ false → b ≡ widen (a .bounds) r → record { good = false; bounds = b } ≡ joinedOf a v r
-unfolding joinedOf
+pub joined-not : (a v : Visit) (r b : Rect) → v .good ≡ false → b ≡ widen (a .bounds) r → record { good = false; bounds = b } ≡ withChild a v r
+unfolding withChild
 joined-not a v r b e f = λ i. record { good = go (v .good) e i; bounds = f i }
   where
     go : (g : Bool) → g ≡ false → false ≡ g && sameRect r (v .bounds)
     go true z = absurd (not-both true refl z)
     go false z = refl
 
-pub joined-good : (a v : Visit) (r b : Rect) (s : Bool) → v .good ≡ true → s ≡ sameRect r (v .bounds) → b ≡ widen (a .bounds) r → record { good = s; bounds = b } ≡ joinedOf a v r
-unfolding joinedOf
+pub joined-good : (a v : Visit) (r b : Rect) (s : Bool) → v .good ≡ true → s ≡ sameRect r (v .bounds) → b ≡ widen (a .bounds) r → record { good = s; bounds = b } ≡ withChild a v r
+unfolding withChild
 joined-good a v r b s e f g = λ i. record { good = (f ∙ go (v .good) e) i; bounds = g i }
   where
     go : (g : Bool) → g ≡ true → sameRect r (v .bounds) ≡ g && sameRect r (v .bounds)
@@ -65,16 +65,16 @@ module _ (w : List ℕ) (l : ℕ) (pg h₀ g₀ : List ℕ) (b₀ : Rect) where
   upto-none s a b = (a, tt, adds-none PAGES h₀, adds-none PIECES g₀, b)
 
   module _ (i : ℕ) (h h′ g g′ : List ℕ) (s v s′ : Visit) (e : Entry) (u : Upto i h g s) (q : e ≡ entryIn pg i)
-      (x : Visited w l FEWEST (e .r) h g v h′ g′) (j : s′ ≡ joinedOf s v (e .rect)) where
+      (x : Visited w l FEWEST (e .r) h g v h′ g′) (j : s′ ≡ withChild s v (e .rect)) where
     here : Visited w l FEWEST (entryIn pg i .r) h g v h′ g′
     here = subst (λ y. Visited w l FEWEST (y .r) h g v h′ g′) q x
 
     good-is : s′ .good ≡ v .good && sameRect (entryIn pg i .rect) (v .bounds)
-    unfolding joinedOf
+    unfolding withChild
     good-is = ap (λ y. y .good) j ∙ ap (λ y. v .good && sameRect (y .rect) (v .bounds)) q
 
     bounds-is : s′ .bounds ≡ widen (s .bounds) (e .rect)
-    unfolding joinedOf
+    unfolding withChild
     bounds-is = ap (λ y. y .bounds) j
 
     some : Tree w l FEWEST (entryIn pg i .r) → 1 ≤ length (page (tableIn w) (entryIn pg i .r) .entries)
@@ -149,7 +149,7 @@ module _ (w : List ℕ) (m p : ℕ) (h h₁ g pg : List ℕ) (n : ℕ) (ent : pa
 
     -- an entry is not
     not-at : (i : ℕ) (h₂ h′ g₂ g′ : List ℕ) (s v s′ : Visit) (e : Entry) → i < n → Upto w l pg h₁ g b₀ i h₂ g₂ s → e ≡ entryIn pg i
-        → Visited w l FEWEST (e .r) h₂ g₂ v h′ g′ → s′ ≡ joinedOf s v (e .rect) → s′ .good ≡ false → Visited w (suc l) m p h g s′ h′ g′
+        → Visited w l FEWEST (e .r) h₂ g₂ v h′ g′ → s′ ≡ withChild s v (e .rect) → s′ .good ≡ false → Visited w (suc l) m p h g s′ h′ g′
     unfolding Tree seen under
     not-at i h₂ h′ g₂ g′ s v s′ e il u q y j z = record {
       yes = λ t. absurd (not-both (s′ .good) t z);
@@ -175,6 +175,6 @@ module _ (w : List ℕ) (l m p : ℕ) (h h₁ g pg : List ℕ) (n : ℕ) (ent : 
       (end-at w m p h h₁ g pg n ent r ok (l - 1) b₀ entered h′ g′ s (subst (λ k. Upto w (l - 1) pg h₁ g b₀ k h′ g′ s) (le-antisymm a b) u) z)
 
   pub walk-bad : (i : ℕ) (h₂ h′ g₂ g′ : List ℕ) (s v s′ : Visit) (e : Entry) → i < n → Upto w (l - 1) pg h₁ g b₀ i h₂ g₂ s → e ≡ entryIn pg i
-      → Visited w (l - 1) FEWEST (e .r) h₂ g₂ v h′ g′ → s′ ≡ joinedOf s v (e .rect) → s′ .good ≡ false → Visited w l m p h g s′ h′ g′
+      → Visited w (l - 1) FEWEST (e .r) h₂ g₂ v h′ g′ → s′ ≡ withChild s v (e .rect) → s′ .good ≡ false → Visited w l m p h g s′ h′ g′
   walk-bad i h₂ h′ g₂ g′ s v s′ e il u q y j z = subst (λ d. Visited w d m p h g s′ h′ g′) (up l above)
       (not-at w m p h h₁ g pg n ent r ok (l - 1) b₀ entered i h₂ h′ g₂ g′ s v s′ e il u q y j z)

@@ -70,8 +70,8 @@ pub record Visited (w : List ℕ) (l m p : ℕ) (h g : List ℕ) (r : Visit) (h�
   pub exact : r .good ≡ true → 1 ≤ length (page (tableIn w) p .entries) → r .bounds ≡ bounds (page (tableIn w) p .entries)
 
 -- one child more, whose entry holds the rectangle
-unfoldable pub joinedOf : Visit → Visit → Rect → Visit
-joinedOf a v r = record { good = v .good && sameRect r (v .bounds); bounds = widen (a .bounds) r }
+unfoldable pub withChild : Visit → Visit → Rect → Visit
+withChild a v r = record { good = v .good && sameRect r (v .bounds); bounds = widen (a .bounds) r }
 
 -- the fewest entries of a root at a level
 abbrev pub rootFewest : ℕ → ℕ

@@ -17,7 +17,7 @@ ghost use Rattle.pages.specs.Layout.{tableIn};
 ghost use Rattle.pages.specs.Readers.{entriesIn};
 ghost use Rattle.pages.specs.Sound.{is, zeros, sound};
 ghost use Rattle.soundness.specs.Calls.{checkCall};
-ghost use Rattle.soundness.specs.Steps.{totalOf, Piece, Head, Tested, Leafed, Visited, joinedOf, rootFewest, Rooted};
+ghost use Rattle.soundness.specs.Steps.{totalOf, Piece, Head, Tested, Leafed, Visited, withChild, rootFewest, Rooted};
 
 // How many piece numbers there are, as a length.
 const NUMBERS: usize = pages::PIECES as usize;
@@ -169,7 +169,7 @@ fn is_exact(rect: pages::Rect, bounds: pages::Rect) -> bool
 
 // One child more, and the rectangle of its entry.
 fn joined(before: Visit, child: Visit, rect: pages::Rect) -> Visit
-    ensures { λ r. ⌜ r ≡ joinedOf before child rect ⌝ }
+    ensures { λ r. ⌜ r ≡ withChild before child rect ⌝ }
 {
     let bounds = pages::widened(before.bounds, rect);
     if !child.good {

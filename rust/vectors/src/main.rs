@@ -29,6 +29,7 @@ vectors answer         what the job program prints for the bytes on standard inp
 vectors check-input    what the crate check_examples reads (see stored.rs)
 vectors check-output   and what it prints
 vectors placing-output what the crate placing_examples prints
+vectors history-output what the crate history_examples prints
 ";
 
 fn main() -> ExitCode {
@@ -57,6 +58,7 @@ fn output(words: &[&str]) -> Option<Vec<u8>> {
         ["check-input"] => stored::check_input(),
         ["check-output"] => stored::check_output(),
         ["placing-output"] => stored::placing_output(),
+        ["history-output"] => stored::history_output(),
         ["jobs"] => jobs::names(),
         ["job", name] => return jobs::find(name),
         ["answer"] => return Some(model::job(&standard_input())),

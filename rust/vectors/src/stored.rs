@@ -1,10 +1,11 @@
-//! What the program crates `check_examples` and `placing_examples` read and
-//! print. The files beside them are this text:
+//! What the program crates `check_examples`, `placing_examples` and
+//! `history_examples` read and print. The files beside them are this text:
 //!
 //! ```text
 //! vectors check-input     crates/check_examples/stdin
 //! vectors check-output    crates/check_examples/stdout
 //! vectors placing-output  crates/placing_examples/stdout
+//! vectors history-output  crates/history_examples/stdout
 //! ```
 
 use crate::formulas::{checksum, questions, Question, RUNS};
@@ -138,15 +139,21 @@ pub fn check_output() -> String {
     checked().into_iter().map(line).collect()
 }
 
-/// Nine pieces, single calls, then the runs. The answer slice is the same in
-/// all queries and starts as zeros.
+/// Nine pieces, then single calls.
 pub fn placing_output() -> String {
     let mut answer = vec![0; PIECES];
     let mut table = vec![0; TABLE_WORDS];
     empty(&mut table);
     let mut lines = nine_lines(&mut table, &mut answer);
     lines += &call_lines(&mut table);
-    lines += &stopped_lines(&mut table);
+    lines + &stopped_lines(&mut table)
+}
+
+/// The runs, with queries at the end of each. The answer slice is the same in
+/// all queries and starts as zeros.
+pub fn history_output() -> String {
+    let mut answer = vec![0; PIECES];
+    let mut lines = String::new();
     for run in &RUNS {
         let (run_lines, table) = run_lines(run);
         lines += &run_lines;
@@ -276,6 +283,7 @@ mod tests {
             ("check_examples/stdin", check_input()),
             ("check_examples/stdout", check_output()),
             ("placing_examples/stdout", placing_output()),
+            ("history_examples/stdout", history_output()),
         ] {
             let stored = std::fs::read_to_string(format!("{crates}/{file}"));
             assert!(stored.expect(file) == text, "{file}");

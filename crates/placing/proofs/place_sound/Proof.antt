@@ -2,7 +2,7 @@
 use mathlib.Core.Path.{sym, ap, _∙_}
 use borrow.Author.Tests.{not-true, not-false}
 use Rattle.pages.specs.Refusals.{ACCEPTED}
-use Rattle.soundness.proofs.Marks.{true-T}
+use Rattle.pages.proofs.Lists.{true-T}
 use Rattle.placing.proofs.Searching.{some-held, none-held}
 use Rattle.placing.proofs.Joined.{head-in, held-in}
 use Rattle.placing.proofs.Called.{call-not-valid, call-too-large, call-stands, call-done}

@@ -1,6 +1,5 @@
 -- Only where nothing beyond the reference can be admitted.
 use borrow.Author.Needs.{needs}
-use mathlib.Core.Path.{sym, _∙_}
 use Rattle.query.proofs.is_passed.Statement.{statement}
 use Rattle.query.proofs.is_passed.Tie as tie
 

@@ -1,6 +1,7 @@
 -- Check refuses, or the table is sound; the order of the walk is one of the free ones.
 use borrow.Author.Needs.{needs}
-use Rattle.query.proofs.Whole.{checked-sound, opened-unchecked, opened-listed}
+use Rattle.soundness.proofs.Answers.{checked-sound}
+use Rattle.query.proofs.Whole.{opened-unchecked, opened-listed}
 use Rattle.query.proofs.opened_pages.Statement.{statement}
 use Rattle.query.proofs.opened_pages.Tie as tie
 

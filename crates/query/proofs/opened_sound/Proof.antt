@@ -22,13 +22,13 @@ returns : tie.Need-returns
 returns c =
     let g = c .before .before .before .before .before .before .before .before in
     let s = c .before .before .before .before .admitted .ensures in
-    opened-refused _ _ _ _ _ (c .if1 .taken) (opened-refusal _ (g .pre .0) (g .pre .1) _ _ _ _ _ _ s (c .before .refused .ensures) (c .before .before .wide .ensures))
+    opened-refused _ _ _ _ _ (c .if1 .taken) (opened-refusal _ (g .pre .0) _ _ _ _ _ _ s (c .before .refused .ensures) (c .before .before .wide .ensures))
 
 list-opened-requires : tie.Need-list-opened-requires
 list-opened-requires c κs =
     let g = c .before .before .before .before .before .before .before .before .before .before .before in
     let s = c .before .before .before .before .before .before .before .admitted .ensures in
-    let e = opened-refusal _ (g .pre .0) (g .pre .1) _ _ _ _ _ _ s (c .before .before .before .before .refused .ensures) (c .before .before .before .before .before .wide .ensures) in
+    let e = opened-refusal _ (g .pre .0) _ _ _ _ _ _ s (c .before .before .before .before .refused .ensures) (c .before .before .before .before .before .wide .ensures) in
     let k = accepted _ _ _ _ (sym e ∙ c .before .before .before .if1 .left) in
     (g .pre .0, g .pre .1, k .room, k .rectangle)
 
@@ -36,7 +36,7 @@ cast-t12 : tie.Need-cast-t12
 cast-t12 c =
     let g = c .before .before .before .before .before .before .before .before .before .before .before .before .before .before in
     let s = c .before .before .before .before .before .before .before .before .before .before .admitted .ensures in
-    let e = opened-refusal _ (g .pre .0) (g .pre .1) _ _ _ _ _ _ s (c .before .before .before .before .before .before .before .refused .ensures) (c .before .before .before .before .before .before .before .before .wide .ensures) in
+    let e = opened-refusal _ (g .pre .0) _ _ _ _ _ _ s (c .before .before .before .before .before .before .before .refused .ensures) (c .before .before .before .before .before .before .before .before .wide .ensures) in
     let k = query-opens _ (g .pre .1) _ _ _ (g .args .answer .now) s (sym e ∙ c .before .before .before .before .before .before .if1 .left) in
     omega (arith, k .small, c .before .before .list-opened .ensures .0)
 
@@ -47,7 +47,7 @@ returns-2 : tie.Need-returns-2
 returns-2 c =
     let g = c .before .before .before .before .before .before .before .before .before .before .before .before .before .before in
     let s = c .before .before .before .before .before .before .before .before .before .before .admitted .ensures in
-    let e = opened-refusal _ (g .pre .0) (g .pre .1) _ _ _ _ _ _ s (c .before .before .before .before .before .before .before .refused .ensures) (c .before .before .before .before .before .before .before .before .wide .ensures) in
+    let e = opened-refusal _ (g .pre .0) _ _ _ _ _ _ s (c .before .before .before .before .before .before .before .refused .ensures) (c .before .before .before .before .before .before .before .before .wide .ensures) in
     let z = sym e ∙ c .before .before .before .before .before .before .if1 .left in
     let k = query-opens _ (g .pre .1) _ _ _ (g .args .answer .now) s z in
     let m = c .before .before .list-opened .ensures in

@@ -2,7 +2,7 @@
 use borrow.Author.Needs.{needs}
 use mathlib.Core.Path.{sym, _∙_}
 use borrow.Author.Tests.{lt-ltb, le-ltb, eq-eqb, ne-eqb, not-true, not-false}
-use Rattle.query.specs.Steps.{refusalFrom}
+use Rattle.query.specs.Calls.{refusalFrom}
 use Rattle.query.proofs.refused.Statement.{statement}
 use Rattle.query.proofs.refused.Tie as tie
 

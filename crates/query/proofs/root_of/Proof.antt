@@ -1,7 +1,7 @@
 -- The root is the second word.
 use borrow.Author.Needs.{needs}
-use mathlib.Core.Path.{_∙_}
-use Rattle.query.proofs.Reading.{root-word}
+use mathlib.Core.Path.{sym, _∙_}
+use Rattle.soundness.proofs.Words.{root-word}
 use Rattle.query.proofs.root_of.Statement.{statement}
 use Rattle.query.proofs.root_of.Tie as tie
 
@@ -14,7 +14,7 @@ wide-requires c κs = search needs
 returns : tie.Need-returns
 returns c =
     let g = c .before .before .before in
-    c .wide .ensures ∙ root-word _ (g .pre .0) (g .pre .1)
+    c .wide .ensures ∙ sym (root-word _ (g .pre .0))
 
 pub root-of-spec : {M : Type 1} → statement M
 root-of-spec = tie.close (tie.spec shared-slice-read-wide wide-requires returns)

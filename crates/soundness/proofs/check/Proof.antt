@@ -2,7 +2,7 @@
 use borrow.Author.Needs.{needs}
 use borrow.Author.Tests.{not-true, not-false}
 use mathlib.Core.Path.{sym, _∙_}
-use Rattle.soundness.proofs.Marks.{true-T, false-T}
+use Rattle.pages.proofs.Lists.{true-T, false-T}
 use Rattle.soundness.proofs.Answers.{answer-short, answer-unsound, answer-words}
 use Rattle.soundness.proofs.check.Statement.{statement}
 use Rattle.soundness.proofs.check.Tie as tie

@@ -3,7 +3,8 @@ use borrow.Author.Needs.{needs}
 use borrow.Author.Tests.{not-true, not-false}
 use native.Mathlib.Omega.{arith}
 use mathlib.Core.Path.{refl, sym, _∙_}
-use Rattle.soundness.proofs.Marks.{true-T, false-T, tested-not, tested-last}
+use Rattle.pages.proofs.Lists.{true-T, false-T}
+use Rattle.soundness.proofs.Marks.{tested-not, tested-last}
 use Rattle.soundness.proofs.take_piece.Statement.{statement}
 use Rattle.soundness.proofs.take_piece.Tie as tie
 

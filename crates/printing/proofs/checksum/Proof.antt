@@ -1,0 +1,57 @@
+-- The loop counts the words of the list.
+-- Assumes nothing.
+use borrow.Author.Needs.{needs}
+use Prim.Native.Nat.{_-_, _≤_}
+use mathlib.Core.Path.{_≡_}
+use lib.ListN.{length}
+use Rattle.printing.proofs.checksum.Statement.{statement}
+use Rattle.printing.proofs.checksum.Tie as tie
+
+abbrev Inv-loop : tie.InvT-loop
+Inv-loop list sum₀ i₀ i-end sum i = (i ≤ i-end) × (i-end ≡ length list)
+
+abbrev μ-loop : tie.MeasureT-loop
+μ-loop list sum₀ i₀ i-end sum i = i-end - i
+
+loop-holds : tie.Need-loop-holds Inv-loop μ-loop
+loop-holds c = search needs
+
+mul-added : tie.Need-mul-added Inv-loop μ-loop
+mul-added c = search needs
+
+shared-slice-read-added : tie.Need-shared-slice-read-added Inv-loop μ-loop
+shared-slice-read-added c = search needs
+
+added-requires : tie.Need-added-requires Inv-loop μ-loop
+added-requires c κs = search needs
+
+add-i : tie.Need-add-i Inv-loop μ-loop
+add-i c = search needs
+
+loop-less : tie.Need-loop-less Inv-loop μ-loop
+loop-less c = search needs
+
+loop-again : tie.Need-loop-again Inv-loop μ-loop
+loop-again c = search needs
+
+number-requires : tie.Need-number-requires Inv-loop μ-loop
+number-requires c κs = search needs
+
+returns : tie.Need-returns Inv-loop μ-loop
+returns c = search needs
+
+pub checksum-spec : {M : Type 1} → statement M
+checksum-spec =
+    tie.close
+    (tie.spec
+    Inv-loop
+    μ-loop
+    loop-holds
+    mul-added
+    shared-slice-read-added
+    added-requires
+    add-i
+    loop-less
+    loop-again
+    number-requires
+    returns)
