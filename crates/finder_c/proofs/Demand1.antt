@@ -7,6 +7,7 @@ use mathlib.Core.Bool.{Bool, true, false, not, cond, _||_}
 use mathlib.Core.List.{List, [], _∷_, _++_}
 use lib.ListN.{length, drop, replicate}
 use lib.Dec.{leb, ltb, eqb}
+use Rattle.pages.specs.Lists.{Every}
 use Rattle.relations.specs.declared.AdmittedSet.{AdmittedSet}
 use Rattle.relations.specs.Axis.{CODES}
 use Rattle.relations.specs.Query.{CLAUSES, someBad, refusalOf, answer, admittedOf}
@@ -16,7 +17,6 @@ use Rattle.pages.specs.Rectangles.{valid}
 use Rattle.pages.specs.Layout.{tableIn}
 use Rattle.pages.specs.Sound.{stored, sound}
 use Rattle.pages.specs.Calls.{emptyWords, emptyCall}
-use Rattle.pages.proofs.Lists.{Every}
 use Rattle.soundness.specs.declared.Checked.{Checked}
 use Rattle.soundness.specs.Calls.{checkCall}
 use Rattle.soundness.proofs.Answers.{refused-none}

@@ -46,7 +46,7 @@ unfoldable pub bookAfter : List Call → Book
 unfolding fed
 bookAfter calls = fed (λ n. blank) calls
 
--- "for each number, the first call that brings a valid rectangle"
+-- "for each number from 0 to 1,023, the first call that brings a valid rectangle"
 unfoldable pub firstValid : ℕ → List Call → Slot
 unfolding valid
 firstValid n [] = blank

@@ -40,14 +40,14 @@ refusalsAfter slice calls = refusalsFrom (emptyCall slice .1) calls
 -- 1 for a short table, then 8 for fewer refusal words than calls; the table and the refusal words that are left
 unfoldable pub replayed : List ℕ → List Call → List ℕ → ℕ × List ℕ × List ℕ
 unfolding tableAfter refusalsAfter
-replayed table calls answer =
-    cond (ltb (length table) TABLE_WORDS) (TABLE_TOO_SHORT, table, answer)
-    (cond (ltb (length answer) (length calls)) (ANSWER_TOO_SHORT, table, answer)
-    (ACCEPTED, tableAfter table calls, refusalsAfter table calls ++ drop (length calls) answer))
+replayed table calls refusals =
+    cond (ltb (length table) TABLE_WORDS) (TABLE_TOO_SHORT, table, refusals)
+    (cond (ltb (length refusals) (length calls)) (ANSWER_TOO_SHORT, table, refusals)
+    (ACCEPTED, tableAfter table calls, refusalsAfter table calls ++ drop (length calls) refusals))
 
 unfoldable pub replayCall : List ℕ → List ℕ → List ℕ → ℕ × List ℕ × List ℕ
 unfolding replayed callsOf
-replayCall table words answer = replayed table (callsOf words) answer
+replayCall table words refusals = replayed table (callsOf words) refusals
 
 -- the mark of each number says how often the leaves hold it: 1 where it stands, and 0 elsewhere
 abbrev pub Marked : List ℕ → List ℕ → Type 0

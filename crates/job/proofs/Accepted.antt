@@ -8,9 +8,9 @@ use lib.ListN.{length, getD, length-append}
 use lib.Seq.{getD-append-add}
 use lib.Dec.{T, leb, eqb}
 use borrow.Author.Tests.{le-leb, eq-eqb}
+use Rattle.pages.specs.Lists.{concatMap}
 use Rattle.pages.proofs.Lists.{and}
 use Rattle.pages.specs.declared.Rect.{Rect}
-use Rattle.query.specs.Opening.{joined}
 use Rattle.history.specs.Book.{Call}
 use Rattle.job.specs.Sizes.{JOB_BYTES, WORD_BYTES, BYTE_VALUES, WORD_VALUES, PIECE_WORDS, QUERY_HEAD, CLAUSE_COUNT_AT, CLAUSE_WORDS}
 use Rattle.job.specs.Job.{Query, Job, rectWords, pieceWords, clauseWords, queryWords, jobWords, littleEndian, jobBytes}
@@ -22,7 +22,7 @@ use Rattle.job.proofs.InOrder.{last-piece, last-query, no-piece, no-que
 
 -- the bytes of words, and a word read from them
 abbrev bytesOf : List ℕ → List ℕ
-bytesOf ws = joined (littleEndian WORD_BYTES) ws
+bytesOf ws = concatMap (littleEndian WORD_BYTES) ws
 
 first-word : (w : ℕ) (rest : List ℕ) → w < WORD_VALUES → wordAt (littleEndian WORD_BYTES w ++ rest) 0 ≡ w
 unfolding wordAt
@@ -108,14 +108,14 @@ module _ (ws : List ℕ) where
     unfolding pieceWords
     piece-size c = refl
 
-    pieces-read : (cs : List Call) (i n : ℕ) (tail : List ℕ) → n ≡ length cs + i → At ws (pieceStart i) (joined pieceWords cs ++ tail)
+    pieces-read : (cs : List Call) (i n : ℕ) (tail : List ℕ) → n ≡ length cs + i → At ws (pieceStart i) (concatMap pieceWords cs ++ tail)
         → (piecesIn b n ≡ piecesIn b i ++ cs) × At ws (pieceStart n) tail
     pieces-read [] i n tail e A =
         let same : n ≡ i = omega arith in
         (ap (piecesIn b) same ∙ sym (append-nil (piecesIn b i)), move (pieceStart i) (pieceStart n) [] tail A (omega arith))
     pieces-read (c ∷ cs) i n tail e A =
-        let rest = joined pieceWords cs ++ tail in
-        let A' = rw (append-assoc (pieceWords c) (joined pieceWords cs) tail) at A in
+        let rest = concatMap pieceWords cs ++ tail in
+        let A' = rw (append-assoc (pieceWords c) (concatMap pieceWords cs) tail) at A in
         let done = pieces-read cs (suc i) n tail (omega arith) (move (pieceStart i) (pieceStart (suc i)) (pieceWords c) rest A' (omega (arith, piece-size c))) in (
           done .0 ∙ ap (λ l. l ++ cs) (last-piece b i) ∙ append-assoc (piecesIn b i) (pieceAt b i ∷ []) cs ∙ ap (λ x. piecesIn b i ++ (x ∷ cs)) (piece-read i c rest A'),
           done .1,
@@ -131,22 +131,22 @@ module _ (ws : List ℕ) where
     unfolding clauseWords
     clause-size c = refl
 
-    clauses-read : (cs : List ℕ) (s i n : ℕ) (tail : List ℕ) → n ≡ length cs + i → At ws (s + CLAUSE_WORDS * i) (joined clauseWords cs ++ tail)
+    clauses-read : (cs : List ℕ) (s i n : ℕ) (tail : List ℕ) → n ≡ length cs + i → At ws (s + CLAUSE_WORDS * i) (concatMap clauseWords cs ++ tail)
         → (clausesAt b s n ≡ clausesAt b s i ++ cs) × At ws (s + CLAUSE_WORDS * n) tail
     clauses-read [] s i n tail e A =
         let same : n ≡ i = omega arith in
         (ap (clausesAt b s) same ∙ sym (append-nil (clausesAt b s i)), move (s + CLAUSE_WORDS * i) (s + CLAUSE_WORDS * n) [] tail A (omega arith))
     clauses-read (c ∷ cs) s i n tail e A =
         let at = s + CLAUSE_WORDS * i in
-        let rest = joined clauseWords cs ++ tail in
-        let A' = rw (append-assoc (clauseWords c) (joined clauseWords cs) tail) at A in
+        let rest = concatMap clauseWords cs ++ tail in
+        let A' = rw (append-assoc (clauseWords c) (concatMap clauseWords cs) tail) at A in
         let done = clauses-read cs s (suc i) n tail (omega arith) (move at (s + CLAUSE_WORDS * suc i) (clauseWords c) rest A' (omega (arith, clause-size c))) in (
           done .0 ∙ ap (λ l. l ++ cs) (last-clause b s i) ∙ append-assoc (clausesAt b s i) (clauseAt b at ∷ []) cs ∙ ap (λ x. clausesAt b s i ++ (x ∷ cs)) (clause-read at c rest A'),
           done .1,
         )
 
     -- queries
-    query-parts : (q : Query) (tail : List ℕ) → queryWords q ++ tail ≡ rectWords (q .reference) ++ (length (q .clauses) ∷ (joined clauseWords (q .clauses) ++ tail))
+    query-parts : (q : Query) (tail : List ℕ) → queryWords q ++ tail ≡ rectWords (q .reference) ++ (length (q .clauses) ∷ (concatMap clauseWords (q .clauses) ++ tail))
     unfolding queryWords
     query-parts q tail = refl
 
@@ -158,7 +158,7 @@ module _ (ws : List ℕ) where
         → (queryAt b s ≡ q) × At ws (s + QUERY_HEAD + CLAUSE_WORDS * wordAt b (s + CLAUSE_COUNT_AT)) tail
     query-read s q tail A =
         let cs = q .clauses in
-        let rest = joined clauseWords cs ++ tail in
+        let rest = concatMap clauseWords cs ++ tail in
         let A' = rw (query-parts q tail) at A in
         let count = read-at s (rectWords (q .reference) ++ (length cs ∷ rest)) CLAUSE_COUNT_AT (s + CLAUSE_COUNT_AT) A' refl in
         let B = move s (s + QUERY_HEAD + CLAUSE_WORDS * 0) (rectWords (q .reference) ++ (length cs ∷ [])) rest A' (omega arith) in
@@ -169,13 +169,13 @@ module _ (ws : List ℕ) where
           rw count (done .1),
         )
 
-    queries-read : (qs : List Query) (i n : ℕ) → n ≡ length qs + i → At ws (queryStart b i) (joined queryWords qs)
+    queries-read : (qs : List Query) (i n : ℕ) → n ≡ length qs + i → At ws (queryStart b i) (concatMap queryWords qs)
         → (queriesIn b n ≡ queriesIn b i ++ qs) × At ws (queryStart b n) []
     queries-read [] i n e A =
         let same : n ≡ i = omega arith in
         (ap (queriesIn b) same ∙ sym (append-nil (queriesIn b i)), rw same A)
     queries-read (q ∷ qs) i n e A =
-        let read = query-read (queryStart b i) q (joined queryWords qs) A in
+        let read = query-read (queryStart b i) q (concatMap queryWords qs) A in
         let done = queries-read qs (suc i) n (omega arith) (rw (next-start b i) (read .1)) in (
           done .0 ∙ ap (λ l. l ++ qs) (last-query b i) ∙ append-assoc (queriesIn b i) (queryAt b (queryStart b i) ∷ []) qs ∙ ap (λ x. queriesIn b i ++ (x ∷ qs)) (read .0),
           done .1,
@@ -195,7 +195,7 @@ well-formed b h e =
     and (leb (length b) JOB_BYTES) (eqb (length b) end) (rw (le-leb (length b) JOB_BYTES h) tt) (rw (eq-eqb (length b) end e) tt)
 
 module _ (j : Job) (short : Words (jobWords j)) where
-  words-are : jobWords j ≡ (length (j .pieces) ∷ []) ++ (joined pieceWords (j .pieces) ++ (length (j .queries) ∷ joined queryWords (j .queries)))
+  words-are : jobWords j ≡ (length (j .pieces) ∷ []) ++ (concatMap pieceWords (j .pieces) ++ (length (j .queries) ∷ concatMap queryWords (j .queries)))
   unfolding jobWords
   words-are = refl
 
@@ -211,9 +211,9 @@ module _ (j : Job) (short : Words (jobWords j)) where
   job-at = refl
 
   abbrev tail : List ℕ
-  tail = length (j .queries) ∷ joined queryWords (j .queries)
+  tail = length (j .queries) ∷ concatMap queryWords (j .queries)
 
-  from-start : At (jobWords j) 0 ((length (j .pieces) ∷ []) ++ (joined pieceWords (j .pieces) ++ tail))
+  from-start : At (jobWords j) 0 ((length (j .pieces) ∷ []) ++ (concatMap pieceWords (j .pieces) ++ tail))
   from-start = record { front = []; split = words-are; size = refl }
 
   piece-count : pieceCount bytes ≡ length (j .pieces)
@@ -222,7 +222,7 @@ module _ (j : Job) (short : Words (jobWords j)) where
   pieces-are : (piecesIn bytes (pieceCount bytes) ≡ j .pieces) × At (jobWords j) (pieceStart (pieceCount bytes)) tail
   pieces-are =
       let done = pieces-read (jobWords j) short (j .pieces) 0 (pieceCount bytes) tail (omega (arith, piece-count))
-      (move (jobWords j) 0 (pieceStart 0) (length (j .pieces) ∷ []) (joined pieceWords (j .pieces) ++ tail) from-start refl) in
+      (move (jobWords j) 0 (pieceStart 0) (length (j .pieces) ∷ []) (concatMap pieceWords (j .pieces) ++ tail) from-start refl) in
       (done .0 ∙ ap (λ l. l ++ j .pieces) (no-piece bytes), done .1)
 
   query-count : queryCount bytes ≡ length (j .queries)
@@ -231,7 +231,7 @@ module _ (j : Job) (short : Words (jobWords j)) where
   queries-are : (queriesIn bytes (queryCount bytes) ≡ j .queries) × At (jobWords j) (queryStart bytes (queryCount bytes)) []
   queries-are =
       let done = queries-read (jobWords j) short (j .queries) 0 (queryCount bytes) (omega (arith, query-count))
-      (move (jobWords j) (pieceStart (pieceCount bytes)) (queryStart bytes 0) (length (j .queries) ∷ []) (joined queryWords (j .queries)) (pieces-are .1) (first-start bytes)) in
+      (move (jobWords j) (pieceStart (pieceCount bytes)) (queryStart bytes 0) (length (j .queries) ∷ []) (concatMap queryWords (j .queries)) (pieces-are .1) (first-start bytes)) in
       (done .0 ∙ ap (λ l. l ++ j .queries) (no-query bytes), done .1)
 
   all-read : length bytes ≡ WORD_BYTES * queryStart bytes (queryCount bytes)

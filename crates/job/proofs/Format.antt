@@ -8,7 +8,7 @@ use native.Mathlib.Nat.{add-mul-mod-self-left, add-mul-div-left, div-eq-of-lt, m
 use lib.ListN.{length, getD, take}
 use lib.Seq.{take-suc, take-all}
 use lib.Dec.{T}
-use Rattle.query.specs.Opening.{joined}
+use Rattle.pages.specs.Lists.{concatMap}
 use Rattle.job.specs.Sizes.{WORD_BYTES, BYTE_VALUES, WORD_VALUES, QUERY_HEAD, CLAUSE_COUNT_AT, CLAUSE_WORDS}
 use Rattle.job.specs.Job.{rectWords, pieceWords, clauseWords, queryWords, jobWords, littleEndian, jobBytes}
 use Rattle.job.specs.Words.{wordAt, rectAt, clauseAt, clausesAt, pieceCount, pieceStart, pieceAt, piecesIn, queryCount, queryStart, queryAt, queriesIn, jobIn, wellFormed}
@@ -17,6 +17,7 @@ use Rattle.job.proofs.Reading.{no-clause, last-clause}
 use Rattle.job.proofs.Places.{first-start, next-start}
 use Rattle.job.proofs.Asking.{length-clauses}
 use Rattle.job.proofs.Items.{exact}
+use Rattle.query.proofs.Concat.{concat-append}
 use Rattle.job.proofs.InOrder.{last-piece, last-query, no-piece, no-query, length-pieces, length-queries}
 
 -- the first n words
@@ -25,9 +26,8 @@ words b zero = []
 words b (suc n) = words b n ++ (wordAt b n ∷ [])
 
 module _ {A B : Type 0} (f : A → List B) where
-  joined-last : (xs : List A) (x : A) → joined f (xs ++ (x ∷ [])) ≡ joined f xs ++ f x
-  joined-last [] x = append-nil (f x)
-  joined-last (y ∷ ys) x = rw (joined-last ys x, append-assoc)
+  concat-last : (xs : List A) (x : A) → concatMap f (xs ++ (x ∷ [])) ≡ concatMap f xs ++ f x
+  concat-last xs x = concat-append f xs (x ∷ []) ∙ ap (λ l. concatMap f xs ++ l) (append-nil (f x))
 
 -- a list that grows by one element at a time, of which two and four are put at its end
 module _ (f : ℕ → List ℕ) (g : ℕ → ℕ) (k : ℕ) (grows : (m : ℕ) → m < k → f (m + 1) ≡ f m ++ (g m ∷ [])) where
@@ -83,11 +83,11 @@ module _ (b : List ℕ) where
       let next : pieceStart (suc n) ≡ pieceStart n + 1 + 4 = omega arith in
       sym (ap (words b) next ∙ four-words (pieceStart n + 1) ∙ rw (one-word (pieceStart n), append-assoc))
 
-  pieces-behind : (n : ℕ) → pieceCount b ∷ joined pieceWords (piecesIn b n) ≡ words b (pieceStart n)
-  pieces-behind zero = ap (λ l. pieceCount b ∷ joined pieceWords l) (no-piece b) ∙ sym (one-word 0 ∙ rw no-words)
+  pieces-behind : (n : ℕ) → pieceCount b ∷ concatMap pieceWords (piecesIn b n) ≡ words b (pieceStart n)
+  pieces-behind zero = ap (λ l. pieceCount b ∷ concatMap pieceWords l) (no-piece b) ∙ sym (one-word 0 ∙ rw no-words)
   pieces-behind (suc n) =
-      ap (λ l. pieceCount b ∷ joined pieceWords l) (last-piece b n)
-      ∙ ap (λ l. pieceCount b ∷ l) (joined-last pieceWords (piecesIn b n) (pieceAt b n))
+      ap (λ l. pieceCount b ∷ concatMap pieceWords l) (last-piece b n)
+      ∙ ap (λ l. pieceCount b ∷ l) (concat-last pieceWords (piecesIn b n) (pieceAt b n))
       ∙ ap (λ l. l ++ pieceWords (pieceAt b n)) (pieces-behind n)
       ∙ piece-words n
 
@@ -98,23 +98,23 @@ module _ (b : List ℕ) where
         rw (low WORD_VALUES (wordAt b m) (wordAt b (m + 1)) (short m), high WORD_VALUES (wordAt b m) (wordAt b (m + 1)) (short m))
         (sym (two-more (words b) (wordAt b) (m + 2) (λ i h. one-word i) m (omega arith)))
 
-    clauses-behind : (s n : ℕ) → words b s ++ joined clauseWords (clausesAt b s n) ≡ words b (s + CLAUSE_WORDS * n)
+    clauses-behind : (s n : ℕ) → words b s ++ concatMap clauseWords (clausesAt b s n) ≡ words b (s + CLAUSE_WORDS * n)
     clauses-behind s zero =
         let same : s ≡ s + CLAUSE_WORDS * 0 = omega arith in
         rw (no-clause b s) (append-nil (words b s) ∙ ap (words b) same)
     clauses-behind s (suc n) =
         let next : s + CLAUSE_WORDS * n + CLAUSE_WORDS ≡ s + CLAUSE_WORDS * suc n = omega arith in
         let clause = clauseAt b (s + CLAUSE_WORDS * n) in
-        ap (λ l. words b s ++ joined clauseWords l) (last-clause b s n)
-        ∙ ap (λ l. words b s ++ l) (joined-last clauseWords (clausesAt b s n) clause)
-        ∙ sym (append-assoc (words b s) (joined clauseWords (clausesAt b s n)) (clauseWords clause))
+        ap (λ l. words b s ++ concatMap clauseWords l) (last-clause b s n)
+        ∙ ap (λ l. words b s ++ l) (concat-last clauseWords (clausesAt b s n) clause)
+        ∙ sym (append-assoc (words b s) (concatMap clauseWords (clausesAt b s n)) (clauseWords clause))
         ∙ ap (λ l. l ++ clauseWords clause) (clauses-behind s n)
         ∙ clause-words (s + CLAUSE_WORDS * n)
         ∙ ap (words b) next
 
     query-is : (s : ℕ) → queryWords (queryAt b s)
         ≡ rectWords (rectAt b s)
-        ++ (length (clausesAt b (s + QUERY_HEAD) (wordAt b (s + CLAUSE_COUNT_AT))) ∷ joined clauseWords (clausesAt b (s + QUERY_HEAD) (wordAt b (s + CLAUSE_COUNT_AT))))
+        ++ (length (clausesAt b (s + QUERY_HEAD) (wordAt b (s + CLAUSE_COUNT_AT))) ∷ concatMap clauseWords (clausesAt b (s + QUERY_HEAD) (wordAt b (s + CLAUSE_COUNT_AT))))
     unfolding queryWords queryAt
     query-is s = refl
 
@@ -125,34 +125,34 @@ module _ (b : List ℕ) where
         let clauses = clausesAt b (s + QUERY_HEAD) c in
         let head : s + CLAUSE_COUNT_AT + 1 ≡ s + QUERY_HEAD = omega arith in
         ap (λ l. words b s ++ l) (query-is s)
-        ∙ ap (λ n. words b s ++ (rectWords (rectAt b s) ++ (n ∷ joined clauseWords clauses))) (length-clauses b (s + QUERY_HEAD) c)
-        ∙ sym (append-assoc (words b s) (rectWords (rectAt b s)) (c ∷ joined clauseWords clauses))
-        ∙ ap (λ l. l ++ (c ∷ joined clauseWords clauses)) (sym (four-words s))
-        ∙ behind-one (s + CLAUSE_COUNT_AT) (joined clauseWords clauses)
-        ∙ ap (λ m. words b m ++ joined clauseWords clauses) head
+        ∙ ap (λ n. words b s ++ (rectWords (rectAt b s) ++ (n ∷ concatMap clauseWords clauses))) (length-clauses b (s + QUERY_HEAD) c)
+        ∙ sym (append-assoc (words b s) (rectWords (rectAt b s)) (c ∷ concatMap clauseWords clauses))
+        ∙ ap (λ l. l ++ (c ∷ concatMap clauseWords clauses)) (sym (four-words s))
+        ∙ behind-one (s + CLAUSE_COUNT_AT) (concatMap clauseWords clauses)
+        ∙ ap (λ m. words b m ++ concatMap clauseWords clauses) head
         ∙ clauses-behind (s + QUERY_HEAD) c
 
-    queries-behind : (n : ℕ) → words b (queryStart b 0) ++ joined queryWords (queriesIn b n) ≡ words b (queryStart b n)
+    queries-behind : (n : ℕ) → words b (queryStart b 0) ++ concatMap queryWords (queriesIn b n) ≡ words b (queryStart b n)
     queries-behind zero = rw (no-query b) (append-nil (words b (queryStart b 0)))
     queries-behind (suc n) =
         let query = queryAt b (queryStart b n) in
-        ap (λ l. words b (queryStart b 0) ++ joined queryWords l) (last-query b n)
-        ∙ ap (λ l. words b (queryStart b 0) ++ l) (joined-last queryWords (queriesIn b n) query)
-        ∙ sym (append-assoc (words b (queryStart b 0)) (joined queryWords (queriesIn b n)) (queryWords query))
+        ap (λ l. words b (queryStart b 0) ++ concatMap queryWords l) (last-query b n)
+        ∙ ap (λ l. words b (queryStart b 0) ++ l) (concat-last queryWords (queriesIn b n) query)
+        ∙ sym (append-assoc (words b (queryStart b 0)) (concatMap queryWords (queriesIn b n)) (queryWords query))
         ∙ ap (λ l. l ++ queryWords query) (queries-behind n)
         ∙ query-words (queryStart b n)
         ∙ ap (words b) (sym (next-start b n))
 
     job-is : jobWords (jobIn b)
-        ≡ (length (piecesIn b (pieceCount b)) ∷ joined pieceWords (piecesIn b (pieceCount b)))
-        ++ (length (queriesIn b (queryCount b)) ∷ joined queryWords (queriesIn b (queryCount b)))
+        ≡ (length (piecesIn b (pieceCount b)) ∷ concatMap pieceWords (piecesIn b (pieceCount b)))
+        ++ (length (queriesIn b (queryCount b)) ∷ concatMap queryWords (queriesIn b (queryCount b)))
     unfolding jobWords jobIn
     job-is = refl
 
     job-words : jobWords (jobIn b) ≡ words b (queryStart b (queryCount b))
     job-words =
-        let pieces = joined pieceWords (piecesIn b (pieceCount b)) in
-        let queries = joined queryWords (queriesIn b (queryCount b)) in
+        let pieces = concatMap pieceWords (piecesIn b (pieceCount b)) in
+        let queries = concatMap queryWords (queriesIn b (queryCount b)) in
         job-is
         ∙ ap (λ n. (n ∷ pieces) ++ (length (queriesIn b (queryCount b)) ∷ queries)) (length-pieces b (pieceCount b))
         ∙ ap (λ n. (pieceCount b ∷ pieces) ++ (n ∷ queries)) (length-queries b (queryCount b))
@@ -175,18 +175,18 @@ module _ (b : List ℕ) where
     one-byte m h = rw (add-one, take-suc b m 0)
 
     -- the bytes of the first n words are the first bytes
-    first-bytes : (n : ℕ) → WORD_BYTES * n ≤ length b → joined (littleEndian WORD_BYTES) (words b n) ≡ take (WORD_BYTES * n) b
+    first-bytes : (n : ℕ) → WORD_BYTES * n ≤ length b → concatMap (littleEndian WORD_BYTES) (words b n) ≡ take (WORD_BYTES * n) b
     first-bytes zero h = rw no-words
     first-bytes (suc n) h =
         let next : WORD_BYTES * n + 4 ≡ WORD_BYTES * suc n = omega arith in
         let last : n + 1 ≡ suc n = omega arith in
-        ap (λ m. joined (littleEndian WORD_BYTES) (words b m)) (sym last)
-        ∙ ap (joined (littleEndian WORD_BYTES)) (one-word n)
-        ∙ joined-last (littleEndian WORD_BYTES) (words b n) (wordAt b n)
+        ap (λ m. concatMap (littleEndian WORD_BYTES) (words b m)) (sym last)
+        ∙ ap (concatMap (littleEndian WORD_BYTES)) (one-word n)
+        ∙ concat-last (littleEndian WORD_BYTES) (words b n) (wordAt b n)
         ∙ rw (first-bytes n (omega arith), word-bytes n)
         (sym (four-more (λ m. take m b) (λ m. getD b m 0) (length b) one-byte (WORD_BYTES * n) (omega arith)) ∙ ap (λ m. take m b) next)
 
-    bytes-are : jobBytes (jobIn b) ≡ joined (littleEndian WORD_BYTES) (jobWords (jobIn b))
+    bytes-are : jobBytes (jobIn b) ≡ concatMap (littleEndian WORD_BYTES) (jobWords (jobIn b))
     unfolding jobBytes
     bytes-are = refl
 
@@ -195,6 +195,6 @@ module _ (b : List ℕ) where
     read-back good =
         let n = queryStart b (queryCount b) in
         bytes-are
-        ∙ ap (joined (littleEndian WORD_BYTES)) (job-words word-short)
+        ∙ ap (concatMap (littleEndian WORD_BYTES)) (job-words word-short)
         ∙ first-bytes n (omega (arith, exact b good))
         ∙ take-all (WORD_BYTES * n) b (omega (arith, exact b good))

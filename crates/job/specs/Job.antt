@@ -2,8 +2,8 @@
 use Prim.Native.Nat.{ℕ, zero, suc, _/_, _%_}
 use mathlib.Core.List.{List, [], _∷_, _++_}
 use lib.ListN.{length}
+use Rattle.pages.specs.Lists.{concatMap}
 use Rattle.pages.specs.declared.Rect.{Rect}
-use Rattle.query.specs.Opening.{joined}
 use Rattle.history.specs.Book.{Call}
 use Rattle.job.specs.Sizes.{WORD_BYTES, BYTE_VALUES, WORD_VALUES}
 
@@ -30,16 +30,16 @@ clauseWords c = (c % WORD_VALUES) ∷ (c / WORD_VALUES) ∷ []
 -- "x1, y1, x2, y2, clause count, then each clause"
 unfoldable pub queryWords : Query → List ℕ
 unfolding clauseWords
-queryWords q = rectWords (q .reference) ++ (length (q .clauses) ∷ joined clauseWords (q .clauses))
+queryWords q = rectWords (q .reference) ++ (length (q .clauses) ∷ concatMap clauseWords (q .clauses))
 
 -- "in two sections, each after its count"
 unfoldable pub jobWords : Job → List ℕ
 unfolding pieceWords queryWords
 jobWords j =
     length (j .pieces)
-    ∷ (joined pieceWords (j .pieces)
+    ∷ (concatMap pieceWords (j .pieces)
     ++ (length (j .queries)
-    ∷ joined queryWords (j .queries)))
+    ∷ concatMap queryWords (j .queries)))
 
 -- the lowest byte first
 abbrev pub littleEndian : ℕ → ℕ → List ℕ
@@ -48,4 +48,4 @@ littleEndian (suc k) n = (n % BYTE_VALUES) ∷ littleEndian k (n / BYTE_VALUES)
 
 unfoldable pub jobBytes : Job → List ℕ
 unfolding jobWords
-jobBytes j = joined (littleEndian WORD_BYTES) (jobWords j)
+jobBytes j = concatMap (littleEndian WORD_BYTES) (jobWords j)

@@ -9,8 +9,7 @@ use mathlib.Core.List.{List, [], _∷_}
 use lib.ListN.{length, getD}
 use lib.Dec.{T, eqb}
 use borrow.Author.Tests.{eq-eqb, ne-eqb}
-use Rattle.pages.specs.Lists.{one, sum, sumBelow}
-use Rattle.pages.proofs.Lists.{Every}
+use Rattle.pages.specs.Lists.{one, sum, sumBelow, Every}
 
 pub below-same : (n : ℕ) (f g : ℕ → ℕ) → ((i : ℕ) → i < n → f i ≡ g i) → sumBelow n f ≡ sumBelow n g
 below-same zero f g h = refl

@@ -11,10 +11,10 @@ use lib.Dec.{eqb}
 use borrow.Author.Tests.{eq-eqb, ne-eqb}
 use Rattle.pages.specs.declared.Entry.{Entry}
 use Rattle.pages.specs.Sizes.{PIECES, PAGES}
-use Rattle.pages.specs.Lists.{one, sum, sumBelow}
+use Rattle.pages.specs.Lists.{one, sum, sumBelow, Every}
 use Rattle.pages.specs.Layout.{Page, Table, noPage, page}
 use Rattle.pages.specs.Sound.{leaf, childEntries, pieceEntries, is, stored, pieces, fewest}
-use Rattle.pages.proofs.Lists.{Every, at-every, every-map, sum-same, sum-length, sum-below}
+use Rattle.pages.proofs.Lists.{at-every, every-map, sum-same, sum-length, sum-below}
 use Rattle.pages.proofs.Below.{below-same, below-le, below-add, below-const, below-times, below-swap, below-one, sum-places, below-is, sum-nothing, below-at}
 use Rattle.pages.proofs.Facts.{Limited, Facts, relimit}
 use Rattle.pages.proofs.Entries.{is-not, above-children}

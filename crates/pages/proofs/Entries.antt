@@ -8,11 +8,11 @@ use mathlib.Core.Bool.{cond}
 use lib.ListN.{length}
 use borrow.Author.Tests.{eq-eqb, ne-eqb}
 use Rattle.pages.specs.declared.Entry.{Entry}
-use Rattle.pages.specs.Lists.{sum}
+use Rattle.pages.specs.Lists.{sum, Every}
 use Rattle.pages.specs.Rectangles.{bounds}
 use Rattle.pages.specs.Layout.{Page, Table, noPage, pageAt, page}
 use Rattle.pages.specs.Sound.{childEntries, pieceEntries, is}
-use Rattle.pages.proofs.Lists.{Every, at-every, every-map, every-both, sum-at, sum-same, sum-zero, sum-length}
+use Rattle.pages.proofs.Lists.{at-every, every-map, every-both, sum-at, sum-same, sum-zero, sum-length}
 use Rattle.pages.proofs.Facts.{Facts}
 
 pub record Fits (ps : List Page) (l : ℕ) (e : Entry) : Type 0 where

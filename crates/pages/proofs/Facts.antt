@@ -9,11 +9,11 @@ use lib.Dec.{T, leb, eqb, leb→le, ltb→lt, eqb→eq, le→leb, lt→ltb, eqb-
 use Rattle.pages.specs.declared.Rect.{Rect}
 use Rattle.pages.specs.declared.Entry.{Entry}
 use Rattle.pages.specs.Sizes.{PIECES, PAGES}
-use Rattle.pages.specs.Lists.{all}
+use Rattle.pages.specs.Lists.{all, Every}
 use Rattle.pages.specs.Rectangles.{valid, sameRect, bounds}
 use Rattle.pages.specs.Layout.{Page, Table, noPage, page}
-use Rattle.pages.specs.Sound.{childEntries, pieceEntries, everyChild, everyPiece, named, stored, pieces, soundRoot, soundLevels, soundRefs, fewest, soundSizes, soundBounds, soundPieces, soundTable}
-use Rattle.pages.proofs.Lists.{holds, all-of, all-below, below-all, Every, every, every→all, every-at, at-every}
+use Rattle.pages.specs.Sound.{childEntries, pieceEntries, everyChild, everyPiece, parents, stored, pieces, soundRoot, soundLevels, soundRefs, fewest, soundSizes, soundBounds, soundPieces, soundTable}
+use Rattle.pages.proofs.Lists.{holds, all-of, all-below, below-all, every, every→all, every-at, at-every}
 
 -- what soundness says, with k as the most pages and h as the highest level
 pub record Limited (t : Table) (k h : ℕ) : Type 0 where
@@ -21,7 +21,7 @@ pub record Limited (t : Table) (k h : ℕ) : Type 0 where
   pub top : t .root < length (t .pages)
   pub levels : (p : ℕ) → p < length (t .pages) → page t p .level ≤ h
   pub lower : (p : ℕ) → p < length (t .pages) → Every (λ e. page t p .level ≡ suc (page t (e .r) .level)) (childEntries (page t p))
-  pub once : (q : ℕ) → q < length (t .pages) → named t q ≡ cond (eqb q (t .root)) 0 1
+  pub once : (q : ℕ) → q < length (t .pages) → parents t q ≡ cond (eqb q (t .root)) 0 1
   pub inside : (p : ℕ) → p < length (t .pages) → Every (λ e. e .r < length (t .pages)) (childEntries (page t p))
   pub enough : (p : ℕ) → p < length (t .pages) → fewest t p ≤ length (page t p .entries)
   pub eight : (p : ℕ) → p < length (t .pages) → length (page t p .entries) ≤ 8

@@ -8,7 +8,7 @@ use mathlib.Core.Bool.{Bool, true, false, _&&_, cond, false≢true}
 use mathlib.Core.List.{List, [], _∷_, _++_}
 use lib.ListN.{length, getD, take, drop, set}
 use lib.Dec.{T}
-use Rattle.pages.specs.Lists.{allOf, sum, all, allBelow, sumBelow}
+use Rattle.pages.specs.Lists.{allOf, sum, all, allBelow, sumBelow, Every}
 
 -- a test by its value, and by what it says
 pub not-both : (b : Bool) → b ≡ true → b ≡ false → ⊥
@@ -63,11 +63,6 @@ below-all zero p h = tt
 below-all (suc n) p h = and (p n) (allBelow n p) (h n (omega arith)) (below-all n p (λ i l. h i (omega arith)))
 
 module _ {A : Type 0} where
-  -- a statement of every element
-  abbrev pub Every : (A → Type 0) → List A → Type 0
-  Every P [] = Unit {0}
-  Every P (x ∷ xs) = P x × Every P xs
-
   pub every : (P : A → Type 0) (p : A → Bool) → ((x : A) → T (p x) → P x) → (xs : List A) → T (all p xs) → Every P xs
   every P p f [] h = tt
   every P p f (x ∷ xs) h = (f x (both (p x) (all p xs) h .0), every P p f xs (both (p x) (all p xs) h .1))

@@ -4,24 +4,19 @@ use native.Mathlib.Omega.{arith}
 use native.Mathlib.Decide.{ℕ-discrete, decLt}
 use mathlib.Core.Path.{_≡_, refl, ap, _∙_}
 use mathlib.Core.Bool.{Bool, true, false, cond}
-use mathlib.Core.List.{List}
 use lib.ListN.{length}
 use lib.Dec.{leb, eqb}
 use borrow.Author.Tests.{le-leb, lt-leb, eq-eqb, ne-eqb}
-use Rattle.pages.specs.Lists.{one, sum, sumBelow}
-use Rattle.pages.specs.Layout.{Page, Table, noPage, pageAt, page}
-use Rattle.pages.specs.Sound.{childEntries, is, named}
-use Rattle.pages.proofs.Lists.{Every, every-map, every-both, sum-same, sum-add, sum-below}
+use Rattle.pages.specs.Lists.{one, sum, sumBelow, Every}
+use Rattle.pages.specs.Layout.{Table, noPage, page}
+use Rattle.pages.specs.Sound.{childEntries, is, parents}
+use Rattle.pages.specs.Under.{seen}
+use Rattle.pages.proofs.Lists.{every-map, every-both, sum-same, sum-add, sum-below}
 use Rattle.pages.proofs.Below.{below-same, below-add, below-one, sum-places, eqb-sym, cond-add, below-chosen, below-at}
 use Rattle.pages.proofs.Facts.{Facts}
 use Rattle.pages.proofs.Counting.{other}
 use Rattle.pages.proofs.Entries.{leaf-children, above-children}
 use Rattle.pages.proofs.Walk.{sum-times, atLevel, children, none-above, root-level}
-
--- the sum of a weight over the pages that the walk from page p at level l comes to, each as often as it is come to
-unfoldable pub seen : (ℕ → ℕ) → List Page → ℕ → ℕ → ℕ
-seen g ps zero p = g p
-seen g ps (suc l) p = g p + sum (λ e. seen g ps l (e .r)) (pageAt ps p .entries)
 
 up-to : (x l n : ℕ) → cond (eqb x (suc l)) n 0 + cond (leb x l) n 0 ≡ cond (leb x (suc l)) n 0
 up-to x l n = go (decLt x (suc l)) (ℕ-discrete x (suc l))
@@ -134,16 +129,16 @@ module _ (t : Table) (top : t .root < length (t .pages))
 
   -- so each page but the root is named one time, the root never
   pub named-once : ((q : ℕ) → q < length (t .pages) → seen (λ x. one (eqb x q)) (t .pages) (page t (t .root) .level) (t .root) ≡ 1)
-      → (q : ℕ) → q < length (t .pages) → named t q ≡ cond (eqb q (t .root)) 0 1
+      → (q : ℕ) → q < length (t .pages) → parents t q ≡ cond (eqb q (t .root)) 0 1
   named-once once q ql =
       let h : ℕ = page t (t .root) .level in
       let g : ℕ → ℕ = λ x. one (eqb x q) in
       let a = seen-named g h (t .root) top refl in
       let b = seen-all (onward g) h (t .root) top refl once in
       let d = sum-places (λ p. sum (is q) (childEntries p)) (t .pages) noPage in
-      let r : named t q + one (eqb (t .root) q) ≡ 1 = omega (arith, a, b, d, once q ql) in
+      let r : parents t q + one (eqb (t .root) q) ≡ 1 = omega (arith, a, b, d, once q ql) in
       turn (eqb q (t .root)) (rw (eqb-sym (t .root) q) at r)
     where
-      turn : (b : Bool) → named t q + one b ≡ 1 → named t q ≡ cond b 0 1
+      turn : (b : Bool) → parents t q + one b ≡ 1 → parents t q ≡ cond b 0 1
       turn true r = omega arith
       turn false r = omega arith

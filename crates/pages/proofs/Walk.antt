@@ -11,22 +11,18 @@ use lib.Dec.{T, eqb}
 use borrow.Author.Tests.{eq-eqb, ne-eqb}
 use Rattle.pages.specs.declared.Rect.{Rect}
 use Rattle.pages.specs.declared.Entry.{Entry}
-use Rattle.pages.specs.Lists.{one, sum, sumBelow}
+use Rattle.pages.specs.Lists.{one, sum, sumBelow, Every}
 use Rattle.pages.specs.Rectangles.{valid, widen, widenAll, bounds}
 use Rattle.pages.specs.Layout.{Page, Table, noPage, pageAt, page}
 use Rattle.pages.specs.Sound.{leaf, pieceEntries, is}
-use Rattle.pages.proofs.Lists.{Every, at-every, every-map, every-both, sum-same, sum-cond, sum-below}
+use Rattle.pages.specs.Under.{under}
+use Rattle.pages.proofs.Lists.{at-every, every-map, every-both, sum-same, sum-cond, sum-below}
 use Rattle.pages.proofs.Below.{below-same, below-times, below-one, sum-places, is-times, below-chosen, sum-nothing, below-at}
 use Rattle.pages.proofs.Facts.{Facts}
 use Rattle.pages.proofs.Counting.{facts-shape, other, others, named-from, others-held, others-most, none-six}
 use Rattle.pages.proofs.Entries.{Fits, leaves, leaf-pieces, above-children, fits-above}
 
--- the sum of a weight over the entries of the leaves under page p, which is at level l
-unfoldable pub under : (Entry → ℕ) → List Page → ℕ → ℕ → ℕ
-under f ps zero p = sum f (pageAt ps p .entries)
-under f ps (suc l) p = sum (λ e. under f ps l (e .r)) (pageAt ps p .entries)
-
--- the same of a walk that goes to a child only where its rectangle passes a test
+-- the weight under a page, of a walk that goes to a child only where its rectangle passes a test
 unfoldable pub walked : (Rect → Bool) → (Entry → ℕ) → List Page → ℕ → ℕ → ℕ
 walked o f ps zero p = sum f (pageAt ps p .entries)
 walked o f ps (suc l) p = sum (λ e. cond (o (e .rect)) (walked o f ps l (e .r)) 0) (pageAt ps p .entries)

@@ -10,10 +10,10 @@ use lib.Seq.{take-at, drop-at, drop-drop, drop-append-add}
 use lib.Dec.{T}
 use Rattle.pages.specs.declared.Entry.{Entry}
 use Rattle.pages.specs.Sizes.{PAGE_HEAD, FANOUT, ENTRY_WORDS, PAGE_WORDS, PAGES, TABLE_WORDS}
-use Rattle.pages.specs.Lists.{allOf}
+use Rattle.pages.specs.Lists.{allOf, Every}
 use Rattle.pages.specs.Layout.{Page, Table, tableOf, noEntry, noPage, page, pack, unpack, encodeEntry, encodePage, encode, decodeEntry, decodePage, decode, pageWords, tableIn}
 use Rattle.pages.specs.Sound.{soundTable, zeros, soundBlank, sound}
-use Rattle.pages.proofs.Lists.{both, and, all-of, below-all, Every, at-every}
+use Rattle.pages.proofs.Lists.{both, and, all-of, below-all, at-every}
 use Rattle.pages.proofs.Facts.{Facts, facts, sound-of}
 use Rattle.pages.proofs.Round.{pack-blank, size-entry, size-page, count-word, blank-entry, blank-page, length-encode, encode-decode, words-of-page}
 

@@ -7,3 +7,4 @@ pub mod Sound
 pub mod Refusals
 pub mod Calls
 pub mod Readers
+pub mod Under

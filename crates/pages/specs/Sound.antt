@@ -33,8 +33,8 @@ module _ (t : Table) where
   everyPiece q = all (λ p. all q (pieceEntries p)) (t .pages)
 
   -- how many entries above the leaves have the r q; how many entries in the leaves have the r c; how many there are in the leaves
-  abbrev pub named : ℕ → ℕ
-  named q = sum (λ p. sum (is q) (childEntries p)) (t .pages)
+  abbrev pub parents : ℕ → ℕ
+  parents q = sum (λ p. sum (is q) (childEntries p)) (t .pages)
 
   abbrev pub stored : ℕ → ℕ
   stored c = sum (λ p. sum (is c) (pieceEntries p)) (t .pages)
@@ -60,7 +60,7 @@ module _ (t : Table) where
   -- "Every page below k but the root is the r of exactly one entry above the leaves; the root of none; no r there reaches k"
   unfoldable pub soundRefs : List Bool
   soundRefs =
-      allBelow (length (t .pages)) (λ q. eqb (named q) (cond (eqb q (t .root)) 0 1))
+      allBelow (length (t .pages)) (λ q. eqb (parents q) (cond (eqb q (t .root)) 0 1))
       ∷ everyChild (λ p e. ltb (e .r) (length (t .pages)))
       ∷ []
 

@@ -7,11 +7,12 @@ use mathlib.Core.Bool.{Bool, true, false, cond}
 use mathlib.Core.List.{List, [], _∷_, _++_, append-nil}
 use lib.ListN.{length, getD, take, drop, set, length-take, length-drop, length-set, take-append-drop}
 use lib.Seq.{getD-set-same}
+use Rattle.pages.specs.Lists.{Every}
 use Rattle.pages.specs.declared.Rect.{Rect}
 use Rattle.pages.specs.declared.Entry.{Entry}
 use Rattle.pages.specs.Rectangles.{widen, widenAll, bounds}
 use Rattle.pages.specs.Layout.{noEntry}
-use Rattle.pages.proofs.Lists.{Every, every-at, every-map, every-append, every-take, every-drop}
+use Rattle.pages.proofs.Lists.{every-at, every-map, every-append, every-take, every-drop}
 use Rattle.pages.proofs.Bounds.{bounds-last}
 use Rattle.pages.proofs.Walk.{Within, bounds-each}
 use Rattle.placing.specs.Place.{ordered}

@@ -12,10 +12,10 @@ use lib.Dec.{T, leb}
 use borrow.Author.Tests.{leb-true, leb-false}
 use Rattle.pages.specs.declared.Rect.{Rect}
 use Rattle.pages.specs.declared.Entry.{Entry}
-use Rattle.pages.specs.Lists.{one, sum}
+use Rattle.pages.specs.Lists.{one, sum, Every}
 use Rattle.pages.specs.Rectangles.{widen, bounds}
 use Rattle.pages.specs.Layout.{Page, pageOf, noPage, pageAt}
-use Rattle.pages.proofs.Lists.{Every, every-take, every-drop, sum-append, sum-set}
+use Rattle.pages.proofs.Lists.{every-take, every-drop, sum-append, sum-set}
 use Rattle.placing.specs.Place.{before, scan, choose, ordered, Step, stepOf, fill}
 use Rattle.placing.proofs.Sort.{length-ordered, sum-parts, every-ordered}
 use Rattle.placing.proofs.Bounding.{bounds-parts}

@@ -11,11 +11,11 @@ use lib.Seq.{getD-set-same, getD-set-other}
 use lib.Dec.{T, leb, ltb, eqb}
 use borrow.Author.Tests.{le-leb, lt-leb, eq-eqb, ne-eqb}
 use Rattle.pages.specs.declared.Entry.{Entry}
-use Rattle.pages.specs.Lists.{one, sum}
+use Rattle.pages.specs.Lists.{one, sum, Every}
 use Rattle.pages.specs.Rectangles.{widen, bounds}
 use Rattle.pages.specs.Layout.{Page, pageOf, noEntry, noPage, pageAt}
 use Rattle.pages.specs.Sound.{childEntries, pieceEntries, is}
-use Rattle.pages.proofs.Lists.{Every, every, every-at, at-every, every-map, every-both, every-append, sum-append, sum-set, sum-at, sum-two, sum-zeros}
+use Rattle.pages.proofs.Lists.{every, every-at, at-every, every-map, every-both, every-append, sum-append, sum-set, sum-at, sum-two, sum-zeros}
 use Rattle.pages.proofs.Entries.{Fits, refit, is-none, unnamed, names, leaves, leaf-children, above-children, above-pieces}
 use Rattle.pages.proofs.Below.{one-le, T-one}
 use Rattle.pages.proofs.Bounds.{bounds-last}

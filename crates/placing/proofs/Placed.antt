@@ -13,11 +13,11 @@ use borrow.Author.Tests.{eq-eqb, ne-eqb}
 use Rattle.pages.specs.declared.Rect.{Rect}
 use Rattle.pages.specs.declared.Entry.{Entry}
 use Rattle.pages.specs.Sizes.{PIECES}
-use Rattle.pages.specs.Lists.{one, sum}
+use Rattle.pages.specs.Lists.{one, sum, Every}
 use Rattle.pages.specs.Rectangles.{entryOf, valid, bounds}
 use Rattle.pages.specs.Layout.{Page, Table, pageOf, tableOf, noPage, pageAt, page}
 use Rattle.pages.specs.Sound.{leaf, childEntries, pieceEntries, is, stored, fewest}
-use Rattle.pages.proofs.Lists.{Every, at-every, every-map, every-both, sum-append, sum-at, sum-zero}
+use Rattle.pages.proofs.Lists.{at-every, every-map, every-both, sum-append, sum-at, sum-zero}
 use Rattle.pages.proofs.Below.{eqb-sym, sum-nothing}
 use Rattle.pages.proofs.Facts.{Facts}
 use Rattle.pages.proofs.Counting.{Shape, shape-facts}

@@ -9,13 +9,13 @@ use mathlib.Core.List.{List, [], _∷_, _++_}
 use lib.ListN.{length, getD, take, drop, set, length-set, List·getD-append}
 use lib.Seq.{getD-set-other, drop-at}
 use lib.Dec.{T, leb}
+use Rattle.pages.specs.Lists.{Every}
 use Rattle.pages.specs.declared.Rect.{Rect}
 use Rattle.pages.specs.declared.Entry.{Entry}
 use Rattle.pages.specs.Sizes.{FANOUT, PAGES, TABLE_WORDS}
 use Rattle.pages.specs.Rectangles.{entryOf}
 use Rattle.pages.specs.Layout.{Page, Table, pageOf, tableOf, noEntry, noPage, pageAt, page, encode, encodePage, pageWords, tableIn}
 use Rattle.pages.specs.Sound.{sound}
-use Rattle.pages.proofs.Lists.{Every}
 use Rattle.pages.proofs.Round.{length-encode}
 use Rattle.pages.proofs.Whole.{sound-in}
 use Rattle.placing.specs.Place.{STAY, Step, stepOf, choose, ordered, fill, renew, down, newRoot, place, pathFrom, path}

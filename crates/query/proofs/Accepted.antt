@@ -10,6 +10,7 @@ use mathlib.Core.List.{List, [], _∷_, _++_}
 use lib.ListN.{length, getD, drop}
 use lib.Dec.{T, ltb, eqb}
 use borrow.Author.Tests.{ltb-false, le-ltb, ne-eqb}
+use Rattle.query.specs.Demand2.{In, PieceAt, QuarterIn}
 use Rattle.relations.specs.Sets.{digit, total}
 use Rattle.relations.specs.Axis.{CODES, IsCode, code}
 use Rattle.relations.specs.Query.{admits, admittedCount}
@@ -17,20 +18,20 @@ use Rattle.relations.proofs.Sides.{is-code, code-suc}
 use Rattle.pages.specs.declared.Rect.{Rect}
 use Rattle.pages.specs.declared.Entry.{Entry}
 use Rattle.pages.specs.Sizes.{TABLE_WORDS}
-use Rattle.pages.specs.Lists.{one}
+use Rattle.pages.specs.Lists.{one, concatMap, Every}
 use Rattle.pages.specs.Refusals.{ACCEPTED, TABLE_TOO_SHORT, TABLE_NOT_SOUND}
 use Rattle.pages.specs.Layout.{Page, noEntry, pageAt, page, tableIn}
 use Rattle.pages.specs.Sound.{sound}
-use Rattle.pages.proofs.Lists.{T-true, Every, every-at, at-every}
+use Rattle.pages.proofs.Lists.{T-true, every-at, at-every}
 use Rattle.pages.proofs.Facts.{Facts}
 use Rattle.pages.proofs.Whole.{sound-in}
 use Rattle.query.specs.declared.Answer.{Answer}
 use Rattle.query.specs.Admission.{codeY, codeX, admitsRect, opens}
-use Rattle.query.specs.Opening.{joined, openedUnder, openedPages}
+use Rattle.query.specs.Opening.{openedUnder, openedPages}
 use Rattle.query.specs.Calls.{soundRefusal, noAnswer, queryListing, queryOpened, queryAnswer, querySound, queryCall, times}
-use Rattle.query.proofs.Members.{In, in-times, times-in, once-apart}
-use Rattle.query.proofs.Pieces.{PieceAt, listed-exactly, listed-rising}
-use Rattle.query.proofs.Tests.{Proper, proper, QuarterIn, quarter-rule}
+use Rattle.query.proofs.Members.{in-times, times-in, once-apart}
+use Rattle.query.proofs.Pieces.{listed-exactly, listed-rising}
+use Rattle.query.proofs.Tests.{Proper, proper, quarter-rule}
 use Rattle.query.proofs.Root.{opened-once, opened-few}
 use Rattle.query.proofs.Parents.{child-proper, opened-inside, opened-child}
 use Rattle.query.proofs.Calls.{accepted}
@@ -64,7 +65,7 @@ unfolding openedUnder
 none-opened o ps zero p h = refl
 none-opened o ps (suc l) p h = ap (_∷_ p) (each (pageAt ps p .entries) (at-every (λ e. o (e .rect) ≡ false) (pageAt ps p .entries) noEntry (h l refl)))
   where
-    each : (es : List Entry) → Every (λ e. o (e .rect) ≡ false) es → joined (λ e. cond (o (e .rect)) (openedUnder o ps l (e .r)) []) es ≡ []
+    each : (es : List Entry) → Every (λ e. o (e .rect) ≡ false) es → concatMap (λ e. cond (o (e .rect)) (openedUnder o ps l (e .r)) []) es ≡ []
     each [] k = refl
     each (e ∷ es) k = rw (k .0) (each es (k .1))
 

@@ -10,24 +10,23 @@ use lib.Dec.{T, ltb, eqb}
 use Rattle.pages.specs.declared.Rect.{Rect}
 use Rattle.pages.specs.declared.Entry.{Entry}
 use Rattle.pages.specs.Sizes.{PIECES}
-use Rattle.pages.specs.Lists.{one, sum, sumBelow}
+use Rattle.pages.specs.Lists.{one, sum, sumBelow, concatMap, Every}
 use Rattle.pages.specs.Rectangles.{valid}
 use Rattle.pages.specs.Layout.{Page, Table, noPage, pageAt, page}
 use Rattle.pages.specs.Sound.{pieceEntries, is, stored, pieces}
-use Rattle.pages.proofs.Lists.{Every, at-every, sum-append, sum-same, sum-le, sum-cond}
+use Rattle.pages.proofs.Lists.{at-every, sum-append, sum-same, sum-le, sum-cond}
 use Rattle.pages.proofs.Below.{below-le, cond-le}
 use Rattle.pages.proofs.Facts.{Facts}
 use Rattle.pages.proofs.Counting.{stored-sum}
 use Rattle.pages.proofs.Walk.{walked, Within, walk-finds}
-use Rattle.query.specs.Opening.{joined}
 use Rattle.query.specs.Listing.{rising, admittedAs, listing}
 use Rattle.query.specs.Calls.{times}
 use Rattle.query.specs.Steps.{MARK_BITS, MARK_WORDS, admittedR, hitsUnder, hitsFrom, isMarked, marked, markedNumbers}
 use Rattle.query.proofs.Marks.{marked-new, rising-same}
 
-pub sum-joined : {A B : Type 0} (g : B → ℕ) (f : A → List B) (xs : List A) → sum g (joined f xs) ≡ sum (λ x. sum g (f x)) xs
-sum-joined g f [] = refl
-sum-joined g f (x ∷ xs) = omega (arith, sum-append g (f x) (joined f xs), sum-joined g f xs)
+pub sum-concat : {A B : Type 0} (g : B → ℕ) (f : A → List B) (xs : List A) → sum g (concatMap f xs) ≡ sum (λ x. sum g (f x)) xs
+sum-concat g f [] = refl
+sum-concat g f (x ∷ xs) = omega (arith, sum-append g (f x) (concatMap f xs), sum-concat g f xs)
 
 -- 1 for an admitted entry with the r c
 abbrev weight : (Rect → Bool) → ℕ → Entry → ℕ
@@ -45,10 +44,10 @@ module _ (admit opens : Rect → Bool) (c : ℕ) (ps : List Page) where
   hits-times : (l p : ℕ) → times c (hitsUnder admit opens ps l p) ≡ walked opens (weight admit c) ps l p
   unfolding hitsUnder walked
   hits-times zero p =
-      sum-joined (λ x. one (eqb x c)) (admittedR admit) (pageAt ps p .entries)
+      sum-concat (λ x. one (eqb x c)) (admittedR admit) (pageAt ps p .entries)
       ∙ sum-same (λ e. times c (admittedR admit e)) (weight admit c) (pageAt ps p .entries) (every-entry _ hit-times (pageAt ps p .entries))
   hits-times (suc l) p =
-      sum-joined (λ x. one (eqb x c)) (λ e. cond (opens (e .rect)) (hitsUnder admit opens ps l (e .r)) []) (pageAt ps p .entries)
+      sum-concat (λ x. one (eqb x c)) (λ e. cond (opens (e .rect)) (hitsUnder admit opens ps l (e .r)) []) (pageAt ps p .entries)
       ∙ sum-same (λ e. times c (cond (opens (e .rect)) (hitsUnder admit opens ps l (e .r)) [])) (λ e. cond (opens (e .rect)) (walked opens (weight admit c) ps l (e .r)) 0) (pageAt ps p .entries)
       (every-entry _ (λ e. sum-cond (λ x. one (eqb x c)) (opens (e .rect)) (hitsUnder admit opens ps l (e .r)) ∙ ap (λ n. cond (opens (e .rect)) n 0) (hits-times l (e .r))) (pageAt ps p .entries))
 

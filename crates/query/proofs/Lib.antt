@@ -1,6 +1,6 @@
--- The laws that the proofs of `query` cite; `Demand1` and `Demand2` have what is owed of the calls.
+-- The laws that the proofs of `query` cite; `Demand2` has what is owed of a query.
 pub mod Reading
-pub mod Joined
+pub mod Concat
 pub mod Bits
 pub mod Marks
 pub mod Walking

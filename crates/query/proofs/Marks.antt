@@ -19,7 +19,7 @@ use Rattle.pages.proofs.Zeros.{zero-at}
 use Rattle.query.specs.Listing.{rising}
 use Rattle.query.specs.Calls.{times}
 use Rattle.query.specs.Steps.{MARK_BITS, MARK_WORDS, isMarked, withMark, marked, onesFrom, markedNumbers}
-use Rattle.query.proofs.Joined.{sets-append}
+use Rattle.query.proofs.Concat.{sets-append}
 use Rattle.query.proofs.Bits.{bit-pow}
 
 pub mark-at : (m : List ℕ) (r c : ℕ) → c / MARK_BITS < length m → isMarked (withMark m r) c ≡ (isMarked m c || eqb r c)

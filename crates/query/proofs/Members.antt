@@ -11,16 +11,11 @@ use lib.ListN.{length, getD, length-append, List·getD-append}
 use lib.Seq.{getD-at}
 use lib.Dec.{eqb}
 use borrow.Author.Tests.{eq-eqb, ne-eqb}
-use Rattle.pages.specs.Lists.{one, sum}
-use Rattle.pages.proofs.Lists.{Every, every-at, every-map, every-append, sum-append, sum-at, sum-two}
+use Rattle.pages.specs.Lists.{one, sum, Every}
+use Rattle.pages.proofs.Lists.{every-at, every-map, every-append, sum-append, sum-at, sum-two}
 use Rattle.query.specs.Listing.{rising}
 use Rattle.query.specs.Calls.{times}
-
--- c stands at a place of the list
-pub record In (c : ℕ) (xs : List ℕ) : Type 0 where
-  pub place : ℕ
-  pub inside : place < length xs
-  pub holds : getD xs place 0 ≡ c
+use Rattle.query.specs.Demand2.{In}
 
 pub in-times : (c : ℕ) (xs : List ℕ) → In c xs → 1 ≤ times c xs
 in-times c xs m =

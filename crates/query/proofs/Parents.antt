@@ -12,18 +12,18 @@ use lib.Dec.{T, eqb}
 use borrow.Author.Tests.{eq-eqb, ne-eqb}
 use Rattle.pages.specs.declared.Rect.{Rect}
 use Rattle.pages.specs.declared.Entry.{Entry}
-use Rattle.pages.specs.Lists.{one, sum, sumBelow}
+use Rattle.pages.specs.Lists.{one, sum, sumBelow, concatMap, Every}
 use Rattle.pages.specs.Rectangles.{valid, bounds}
 use Rattle.pages.specs.Layout.{Table, noEntry, noPage, page}
-use Rattle.pages.specs.Sound.{childEntries, is, named, fewest}
-use Rattle.pages.proofs.Lists.{Every, every-at, every-map, every-append, sum-at, sum-same, sum-le, sum-add, sum-cond}
+use Rattle.pages.specs.Sound.{childEntries, is, parents, fewest}
+use Rattle.pages.proofs.Lists.{every-at, every-map, every-append, sum-at, sum-same, sum-le, sum-add, sum-cond}
 use Rattle.pages.proofs.Below.{below-same, below-add, below-const, sum-places, cond-le, cond-add, below-chosen, below-at}
 use Rattle.pages.proofs.Facts.{Facts}
 use Rattle.pages.proofs.Entries.{Fits, leaf-children, leaf-pieces, above-children, fits-above, root-free}
 use Rattle.pages.proofs.Walk.{Within, bounds-each}
-use Rattle.query.specs.Opening.{joined, openedUnder, openedPages}
+use Rattle.query.specs.Opening.{openedUnder, openedPages}
 use Rattle.query.specs.Calls.{times}
-use Rattle.query.proofs.Found.{every-entry, sum-joined}
+use Rattle.query.proofs.Found.{every-entry, sum-concat}
 use Rattle.query.proofs.Root.{opened-once}
 use Rattle.query.proofs.Tests.{Proper, proper, around}
 
@@ -56,7 +56,7 @@ module _ (t : Table) (F : Facts t) where
   not-root l p i pl lv il =
       every-at (λ x. x .r ≢ t .root) (page t p .entries) noEntry (rw (above-children (page t p) l lv) at (root-free t F p pl)) i il
 
-  named-one : (q : ℕ) → q < length (t .pages) → q ≢ t .root → named t q ≡ 1
+  named-one : (q : ℕ) → q < length (t .pages) → q ≢ t .root → parents t q ≡ 1
   named-one q ql n = F .once q ql ∙ ap (λ b. cond b 0 1) (ne-eqb q (t .root) n)
 
   -- a page but the root has an entry
@@ -94,7 +94,7 @@ module _ (t : Table) (F : Facts t) where
     opened-sum g l p =
         omega (
           arith,
-          sum-joined g (λ e. cond (o (e .rect)) (openedUnder o (t .pages) l (e .r)) []) (page t p .entries),
+          sum-concat g (λ e. cond (o (e .rect)) (openedUnder o (t .pages) l (e .r)) []) (page t p .entries),
           sum-same (λ e. sum g (cond (o (e .rect)) (openedUnder o (t .pages) l (e .r)) [])) (λ e. cond (o (e .rect)) (sum g (openedUnder o (t .pages) l (e .r))) 0) (page t p .entries)
               (every-entry _ (λ e. sum-cond g (o (e .rect)) (openedUnder o (t .pages) l (e .r))) (page t p .entries)),
         )
@@ -129,10 +129,10 @@ module _ (t : Table) (F : Facts t) where
         choose false xs h = tt
 
         each : (es : List Entry) → Every (λ e. Every (λ x. x < length (t .pages)) (openedUnder o (t .pages) l (e .r))) es
-            → Every (λ x. x < length (t .pages)) (joined (λ e. cond (o (e .rect)) (openedUnder o (t .pages) l (e .r)) []) es)
+            → Every (λ x. x < length (t .pages)) (concatMap (λ e. cond (o (e .rect)) (openedUnder o (t .pages) l (e .r)) []) es)
         each [] h = tt
         each (e ∷ es) h =
-            every-append (λ x. x < length (t .pages)) (cond (o (e .rect)) (openedUnder o (t .pages) l (e .r)) []) (joined (λ x. cond (o (x .rect)) (openedUnder o (t .pages) l (x .r)) []) es)
+            every-append (λ x. x < length (t .pages)) (cond (o (e .rect)) (openedUnder o (t .pages) l (e .r)) []) (concatMap (λ x. cond (o (x .rect)) (openedUnder o (t .pages) l (x .r)) []) es)
             (choose (o (e .rect)) (openedUnder o (t .pages) l (e .r)) (h .0)) (each es (h .1))
 
     pub opened-inside : Every (λ x. x < length (t .pages)) (openedPages o t)

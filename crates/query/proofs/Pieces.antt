@@ -19,17 +19,8 @@ use Rattle.pages.proofs.Facts.{Facts}
 use Rattle.pages.proofs.Entries.{leaf-pieces}
 use Rattle.pages.proofs.Below.{T-one}
 use Rattle.query.specs.Listing.{rising, admittedAs, listing}
-use Rattle.query.proofs.Members.{In, in-times, times-in, sum-some, rising-below, rising-order, rising-times}
-
--- c is a piece of the table and has the rectangle r
-pub record PieceAt (t : Table) (c : ℕ) (r : Rect) : Type 0 where
-  pub leaf : ℕ
-  pub place : ℕ
-  pub inside : leaf < length (t .pages)
-  pub level : page t leaf .level ≡ 0
-  pub entry : place < length (page t leaf .entries)
-  pub number : getD (page t leaf .entries) place noEntry .r ≡ c
-  pub rectangle : getD (page t leaf .entries) place noEntry .rect ≡ r
+use Rattle.query.specs.Demand2.{PieceAt, In}
+use Rattle.query.proofs.Members.{in-times, times-in, sum-some, rising-below, rising-order, rising-times}
 
 leaf-level : (g : Page) (i : ℕ) → i < length (pieceEntries g) → g .level ≡ 0
 leaf-level g i l = go (leaf g) refl l

@@ -7,6 +7,7 @@ use mathlib.Core.List.{List, []}
 use lib.ListN.{length}
 use lib.Seq.{sets}
 use lib.Dec.{T, eqb}
+use Rattle.pages.specs.Under.{seen}
 use Rattle.relations.specs.Steps.{joinedOf}
 use Rattle.pages.specs.declared.Rect.{Rect}
 use Rattle.pages.specs.Sizes.{TABLE_WORDS, PAGES}
@@ -17,18 +18,18 @@ use Rattle.pages.proofs.Lists.{sum-le, sum-length, sum-cond}
 use Rattle.pages.proofs.Below.{below-const, cond-le}
 use Rattle.pages.proofs.Facts.{Facts}
 use Rattle.pages.proofs.Whole.{sound-in}
-use Rattle.pages.proofs.Visit.{seen, seen-root, seen-once}
+use Rattle.pages.proofs.Visit.{seen-root, seen-once}
 use Rattle.query.specs.Opening.{openedUnder, openedPages}
 use Rattle.query.specs.Calls.{times}
 use Rattle.query.specs.Steps.{SoundPage, admitsBy, opensBy, hitsUnder, hitsFrom, marked}
 use Rattle.query.proofs.Reading.{own-page}
-use Rattle.query.proofs.Found.{every-entry, sum-joined}
+use Rattle.query.proofs.Found.{every-entry, sum-concat}
 
 opened-seen : (o : Rect → Bool) (g : ℕ → ℕ) (ps : List Page) (l p : ℕ) → sum g (openedUnder o ps l p) ≤ seen g ps l p
 unfolding openedUnder seen
 opened-seen o g ps zero p = omega arith
 opened-seen o g ps (suc l) p =
-    let a = sum-joined g (λ e. cond (o (e .rect)) (openedUnder o ps l (e .r)) []) (pageAt ps p .entries) in
+    let a = sum-concat g (λ e. cond (o (e .rect)) (openedUnder o ps l (e .r)) []) (pageAt ps p .entries) in
     let b = sum-le (λ e. sum g (cond (o (e .rect)) (openedUnder o ps l (e .r)) [])) (λ e. seen g ps l (e .r)) (pageAt ps p .entries)
     (every-entry _ (λ e. omega (arith, sum-cond g (o (e .rect)) (openedUnder o ps l (e .r)), cond-le (o (e .rect)) (sum g (openedUnder o ps l (e .r))), opened-seen o g ps l (e .r))) (pageAt ps p .entries)) in
     omega (arith, a, b)

@@ -10,7 +10,7 @@ use lib.Dec.{T, leb, ltb, ltb→lt}
 use Rattle.relations.specs.Sets.{bit}
 use Rattle.relations.specs.Axis.{CODES}
 use Rattle.relations.specs.Query.{refusalOf, rowSets, answer, admittedOf}
-use Rattle.relations.specs.Nodes.{inside, QuarterRect}
+use Rattle.relations.specs.Nodes.{inside}
 use Rattle.relations.specs.Steps.{joinedOf, pageTest, rowsHave}
 use Rattle.relations.proofs.Bits.{bit-none, none-below}
 use Rattle.relations.proofs.Sides.{is-code}
@@ -21,6 +21,7 @@ use Rattle.pages.specs.Rectangles.{valid}
 use Rattle.pages.proofs.Lists.{true-T, T-true, holds}
 use Rattle.pages.proofs.Walk.{Within}
 use Rattle.query.specs.Admission.{codeY, codeX, admitsRect, opens}
+use Rattle.query.specs.Demand2.{QuarterIn}
 use Rattle.query.specs.Steps.{admitsBy, opensBy}
 
 -- a row that is empty admits nothing, and holds nothing below it
@@ -73,10 +74,7 @@ set-refusal clauses = go (refusalOf clauses)
     go zero = refl
     go (suc r) = refl
 
--- the quarter-unit rule between two rectangles
-abbrev pub QuarterIn : List ℕ → Rect → Rect → Type 0
-QuarterIn clauses q s = QuarterRect clauses (s .x1) (s .y1) (s .x2) (s .y2) (q .x1) (q .y1) (q .x2) (q .y2)
-
+-- the page test is the quarter-unit rule
 pub quarter-rule : (clauses : List ℕ) (q s : Rect) → Proper q → Proper s → QuarterIn clauses q s ↔ (opens clauses q s ≡ true)
 unfolding opens
 quarter-rule clauses q s pq ps =

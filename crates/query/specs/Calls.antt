@@ -47,7 +47,7 @@ unfoldable pub queryOpened : List ℕ → Rect → List ℕ → List ℕ
 unfolding openedPages opens tableIn
 queryOpened w q clauses = openedPages (opens clauses q) (tableIn w)
 
--- "writes the listing at the start of a slice of 16-bit words, leaves the rest, and returns the number of hits and of opened pages"
+-- "writes the listing of demand 2 at the start of a slice of 16-bit words, leaves the rest, and returns the number of hits and of opened pages"
 unfoldable pub queryAnswer : List ℕ → Rect → List ℕ → List ℕ → Answer × List ℕ
 unfolding queryListing queryOpened
 queryAnswer w q clauses answer =
@@ -87,7 +87,7 @@ times n xs = sum (λ x. one (eqb x n)) xs
 abbrev pub Rearranged : List ℕ → List ℕ → Type 0
 Rearranged xs ys = (n : ℕ) → times n xs ≡ times n ys
 
--- "lists those page numbers, each one time, leaves the words after them. Their order is free"
+-- "lists those page numbers, each one time, in a slice of 16-bit words, leaves the words after them, and returns their count. Their order is free"
 pub record OpenedWords (w : List ℕ) (q : Rect) (clauses before after : List ℕ) (r : Opened) : Type 0 where
   pub result : r ≡ openedCall w q clauses before
   pub listed : r .refusal ≡ ACCEPTED → Rearranged (take (r .count) after) (queryOpened w q clauses)

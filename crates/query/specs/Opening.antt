@@ -1,20 +1,15 @@
 -- Which pages are opened.
 use Prim.Native.Nat.{ℕ, zero, suc}
 use mathlib.Core.Bool.{Bool, cond}
-use mathlib.Core.List.{List, [], _∷_, _++_}
+use mathlib.Core.List.{List, [], _∷_}
 use Rattle.pages.specs.declared.Rect.{Rect}
+use Rattle.pages.specs.Lists.{concatMap}
 use Rattle.pages.specs.Layout.{Page, Table, pageAt, page}
-
-module _ {A B : Type 0} where
-  -- the lists of all elements, one after the other
-  abbrev pub joined : (A → List B) → List A → List B
-  joined f [] = []
-  joined f (x ∷ xs) = f x ++ joined f xs
 
 -- page p at level l, and the pages under it that the walk opens: "from a page to its children one level lower"
 unfoldable pub openedUnder : (Rect → Bool) → List Page → ℕ → ℕ → List ℕ
 openedUnder opens ps zero p = p ∷ []
-openedUnder opens ps (suc l) p = p ∷ joined (λ e. cond (opens (e .rect)) (openedUnder opens ps l (e .r)) []) (pageAt ps p .entries)
+openedUnder opens ps (suc l) p = p ∷ concatMap (λ e. cond (opens (e .rect)) (openedUnder opens ps l (e .r)) []) (pageAt ps p .entries)
 
 -- "The root is always opened, also when empty"
 unfoldable pub openedPages : (Rect → Bool) → Table → List ℕ

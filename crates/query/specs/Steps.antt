@@ -6,6 +6,7 @@ use mathlib.Core.List.{List, [], _∷_, _++_}
 use lib.ListN.{length, getD, drop, set}
 use lib.Bits.{bitOr}
 use lib.Dec.{T, ltb, eqb}
+use Rattle.pages.specs.Lists.{concatMap}
 use Rattle.relations.specs.Sets.{bit}
 use Rattle.relations.specs.Steps.{pageTest, rowsHave}
 use Rattle.pages.specs.declared.Rect.{Rect}
@@ -17,7 +18,6 @@ use Rattle.pages.specs.Sound.{sound}
 use Rattle.query.specs.declared.Opened.{Opened}
 use Rattle.query.specs.declared.Reference.{Reference}
 use Rattle.query.specs.Admission.{codeY, codeX}
-use Rattle.query.specs.Opening.{joined}
 use Rattle.query.specs.Listing.{rising}
 use Rattle.query.specs.Calls.{queryOpened, openedSound}
 
@@ -40,7 +40,7 @@ passed q p = q .near && beyond (q .rect) p
 abbrev pub Passing : Reference → (Rect → Bool) → Type 0
 Passing q test = (p : Rect) → passed q p ≡ true → test p ≡ false
 
--- the leaf test by row sets, the page test by joined rows
+-- the leaf test by row sets, the page test by concatMap rows
 unfoldable pub admitsBy : List ℕ → Rect → Rect → Bool
 admitsBy rows q p = rowsHave rows (codeY q p) (codeX q p)
 
@@ -53,9 +53,9 @@ admittedR admit e = cond (admit (e .rect)) (e .r ∷ []) []
 
 -- the numbers of the admitted pieces that the walk from page p at level l meets
 unfoldable pub hitsUnder : (Rect → Bool) → (Rect → Bool) → List Page → ℕ → ℕ → List ℕ
-hitsUnder admit opens ps zero p = joined (admittedR admit) (pageAt ps p .entries)
+hitsUnder admit opens ps zero p = concatMap (admittedR admit) (pageAt ps p .entries)
 hitsUnder admit opens ps (suc l) p =
-    joined (λ e. cond (opens (e .rect)) (hitsUnder admit opens ps l (e .r)) []) (pageAt ps p .entries)
+    concatMap (λ e. cond (opens (e .rect)) (hitsUnder admit opens ps l (e .r)) []) (pageAt ps p .entries)
 
 -- and from the root
 unfoldable pub hitsFrom : (Rect → Bool) → (Rect → Bool) → Table → List ℕ

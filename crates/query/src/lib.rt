@@ -7,12 +7,13 @@ ghost use Prim.Native.Nat.{_+_, _*_, _≤_, _<_};
 ghost use lib.ListN.{length, getD};
 ghost use lib.Seq.{sets};
 ghost use lib.Dec.{T};
+ghost use Rattle.pages.specs.Lists.{concatMap};
 ghost use Rattle.relations.specs.Steps.{joinedOf, nodeMasks};
 ghost use Rattle.pages.specs.Sizes.{PAGES, PIECES, TABLE_WORDS};
 ghost use Rattle.pages.specs.Rectangles.{valid};
 ghost use Rattle.pages.specs.Sound.{sound};
 ghost use Rattle.pages.specs.Layout.{noEntry, page, tableIn};
-ghost use Rattle.query.specs.Opening.{joined, openedUnder, openedPages};
+ghost use Rattle.query.specs.Opening.{openedUnder, openedPages};
 ghost use Rattle.query.specs.Calls.{refusalFrom, querySound, queryCall, OpenedWords, frontOf};
 ghost use Rattle.query.specs.Steps.{SoundPage, openedListed, beyond, passed, Passing, admitsBy, opensBy, admittedR, hitsUnder, hitsFrom, MARK_BITS, withMark, marked, onesFrom, markedNumbers};
 use pages::Entry;
@@ -23,6 +24,7 @@ const MARK_BITS: u32 = 64;
 
 const MARK_WORDS: usize = 16;
 
+// What a query answers: its refusal, how many pieces it listed, and how many pages it opened.
 #[repr(C)]
 pub struct Answer {
     pub refusal: u32,
@@ -30,6 +32,7 @@ pub struct Answer {
     pub opened: u32,
 }
 
+// What opened pages answers: its refusal, and how many pages it listed.
 #[repr(C)]
 pub struct Opened {
     pub refusal: u32,
@@ -42,7 +45,7 @@ struct Reference {
     near: bool,
 }
 
-// The first count words of the answer slice itself.
+// The front part of the answer slice itself, its first count words; "a count above the length gives the empty part".
 pub fn front(answer: &[u16], count: usize) -> &[u16]
     ensures { λ r. ⌜ now r ≡ frontOf (now (answer .entry)) count ⌝ }
 {
@@ -53,7 +56,7 @@ pub fn front(answer: &[u16], count: usize) -> &[u16]
     }
 }
 
-fn wide(x: u32) -> usize
+fn to_index(x: u32) -> usize
     ensures { λ r. ⌜ r ≡ x ⌝ }
 {
     x as usize
@@ -64,7 +67,7 @@ fn size_of(table: &[u32], p: usize, level: usize) -> usize
     requires { ⌜ SoundPage (now table) p level ⌝ }
     ensures { λ r. ⌜ r ≡ length (page (tableIn (now (table .entry))) p .entries) ⌝ }
 {
-    wide(pages::page_of(table, p)[pages::COUNT])
+    to_index(pages::page_of(table, p)[pages::COUNT])
 }
 
 // The entry at place i of a page of a sound table.
@@ -152,7 +155,7 @@ fn mark_leaf(
     marks: &mut [u64; MARK_WORDS],
 )
     requires { ⌜ SoundPage (now table) p 0 × Passing reference (admitsBy (now rows) (reference .rect)) ⌝ }
-    ensures { λ _. ⌜ now (marks .exit) ≡ marked (now (marks .entry)) (joined (admittedR (admitsBy (now (rows .entry)) (reference .rect))) (page (tableIn (now (table .entry))) p .entries)) ⌝ }
+    ensures { λ _. ⌜ now (marks .exit) ≡ marked (now (marks .entry)) (concatMap (admittedR (admitsBy (now (rows .entry)) (reference .rect))) (page (tableIn (now (table .entry))) p .entries)) ⌝ }
 {
     let n = size_of(table, p, 0);
     for i in 0..n {
@@ -196,7 +199,7 @@ fn walk(
                 below,
                 masks,
                 level - 1,
-                wide(e.r),
+                to_index(e.r),
                 marks,
                 count,
             );
@@ -235,7 +238,7 @@ fn open_walk(
                 below,
                 masks,
                 level - 1,
-                wide(e.r),
+                to_index(e.r),
                 answer,
                 next,
             );
@@ -277,14 +280,14 @@ fn root_of(table: &[u32]) -> usize
     requires { ⌜ (TABLE_WORDS ≤ length (now table)) × T (sound (now table)) ⌝ }
     ensures { λ r. ⌜ r ≡ tableIn (now (table .entry)) .root ⌝ }
 {
-    wide(table[ROOT])
+    to_index(table[ROOT])
 }
 
 fn level_of(table: &[u32], p: usize) -> usize
     requires { ⌜ (TABLE_WORDS ≤ length (now table)) × T (sound (now table)) × (p < length (tableIn (now table) .pages)) ⌝ }
     ensures { λ r. ⌜ r ≡ page (tableIn (now (table .entry))) p .level ⌝ }
 {
-    wide(pages::page_of(table, p)[pages::LEVEL])
+    to_index(pages::page_of(table, p)[pages::LEVEL])
 }
 
 // Walks from the root: marks the admitted pieces, and gives the number of opened pages.
@@ -348,7 +351,7 @@ pub fn query_sound(table: &[u32], reference: Rect, clauses: &[u64], answer: &mut
         reference,
         set.refusal,
         answer.len(),
-        wide(table[PIECE_COUNT]),
+        to_index(table[PIECE_COUNT]),
     );
     if refusal != pages::ACCEPTED {
         return Answer {
@@ -379,7 +382,7 @@ pub fn opened_sound(table: &[u32], reference: Rect, clauses: &[u64], answer: &mu
         reference,
         set.refusal,
         answer.len(),
-        wide(table[PAGE_COUNT]),
+        to_index(table[PAGE_COUNT]),
     );
     if refusal != pages::ACCEPTED {
         return Opened { refusal, count: 0 };

@@ -1,5 +1,4 @@
 -- The answer of the admitted-set call: its refusals, and its count as the ones of its rows.
--- Assumes nothing.
 use mathlib.Core.Bool.{Bool, true, false, _||_}
 use mathlib.Core.List.{List}
 use mathlib.Core.Path.{_≡_, refl, sym, ap, ap₂, _∙_}

@@ -1,5 +1,4 @@
 -- Laws of `bit`, `packed`, `total`, `someBelow` and `listed`.
--- Assumes nothing.
 use mathlib.Core.Bool.{Bool, true, false, _&&_, _||_, false≢true}
 use mathlib.Core.List.{List}
 use mathlib.Core.Path.{_≡_, refl, sym, ap, ap₂, _∙_}

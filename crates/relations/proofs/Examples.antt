@@ -1,5 +1,4 @@
 -- The starred examples of document 01 and the sizes that it gives, shown of the definitions as one computed table.
--- Assumes nothing.
 use mathlib.Core.Bool.{Bool, true, _&&_}
 use mathlib.Core.List.{List, [], _∷_}
 use mathlib.Core.Path.{_≡_, refl}

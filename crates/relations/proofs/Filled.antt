@@ -1,5 +1,4 @@
 -- A loop that goes through a list of n numbers and leaves f h at each place h: what the list is after h turns.
--- Assumes nothing.
 use mathlib.Core.Bool.{cond}
 use mathlib.Core.List.{List}
 use mathlib.Core.Path.{_≡_, sym, ap, _∙_}

@@ -1,5 +1,4 @@
 -- Where nothing beyond the reference can be admitted, what lies beyond it on an axis passes neither test.
--- Assumes nothing.
 use mathlib.Core.Bool.{Bool, true, false, not, _&&_, and-false}
 use mathlib.Core.List.{List}
 use mathlib.Core.Logic.{_⊎_, inl, inr}

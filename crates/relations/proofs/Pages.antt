@@ -1,5 +1,4 @@
 -- The page test: the joined rows say what `mayHold` says, and `mayHold` is the quarter-unit rule for rectangles.
--- Assumes nothing.
 use mathlib.Core.Bool.{Bool, true, false, not, cond, _&&_, and-comm, false≢true, _||_}
 use mathlib.Core.List.{List}
 use mathlib.Core.Logic.{_↔_}

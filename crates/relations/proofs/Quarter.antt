@@ -1,6 +1,5 @@
 -- The thirteen sets are the quarter-unit rule. One computed test over all entries compares the masks of the source and the sets of
 -- document 01 with the zones of the ends; a quarter-unit interval with any zones that a page allows is at hand.
--- Assumes nothing.
 use mathlib.Core.Bool.{Bool, true, false, _&&_, Bool·beq}
 use mathlib.Core.List.{List, [], _∷_}
 use mathlib.Core.Logic.{_↔_}

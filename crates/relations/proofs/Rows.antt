@@ -1,5 +1,4 @@
 -- The thirteen rows of relations, clauses and queries: what each turn of the loops that gather them adds.
--- Assumes nothing.
 use mathlib.Core.Bool.{Bool, true, false, _&&_, and-true, and-assoc, or-false}
 use mathlib.Core.List.{List, [], _∷_, _++_}
 use mathlib.Core.Path.{_≡_, refl, sym, ap, ap₂, _∙_}

@@ -1,6 +1,5 @@
 -- Each test of the code table is a test of a side, so codes depend on four sides alone: what the code computes from them is
 -- compared with the table for all of them by one computed test.
--- Assumes nothing.
 use mathlib.Core.Bool.{Bool, true, false, cond, _&&_, and-false}
 use mathlib.Core.List.{List, [], _∷_}
 use mathlib.Core.Logic.{_⊎_, inl, inr}

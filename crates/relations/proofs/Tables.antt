@@ -1,5 +1,4 @@
 -- The relation tables of the source, held to the code lists of each relation by a computed test for each table.
--- Assumes nothing.
 use mathlib.Core.Bool.{Bool, true, _&&_}
 use mathlib.Core.List.{List, [], _∷_}
 use mathlib.Core.Path.{_≡_, refl, sym, ap, ap₂, _∙_}

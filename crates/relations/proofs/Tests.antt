@@ -1,5 +1,4 @@
 -- Tests of the Bool: the parts of a conjunction, and what a passed test over 0 .. n - 1 says at each place.
--- Assumes nothing.
 use mathlib.Core.Bool.{Bool, true, false, not, _&&_, _||_, Bool·beq, false≢true}
 use mathlib.Core.Path.{_≡_, refl, sym, ap, _∙_}
 use Prim.Native.Nat.{ℕ, zero, suc, _<_}

@@ -1,5 +1,4 @@
 -- Turning an axis round: `turned` is its own inverse, and it gives the code of the two intervals turned round.
--- Assumes nothing.
 use mathlib.Core.Bool.{Bool, true}
 use mathlib.Core.Path.{_≡_, refl, ap, sym, _∙_}
 use Prim.Native.Nat.{ℕ, suc, _-_, _≤_, _<_}

@@ -1,6 +1,5 @@
 -- A valid reference cuts an axis into five zones: 0 below q1, 1 at q1, 2 between, 3 at q2, 4 above q2. A valid interval has the
 -- code that its ends' zones have against [1, 3], so what holds of codes is computed for all pairs of zones.
--- Assumes nothing.
 use mathlib.Core.Bool.{Bool, true, false, not, _&&_, _||_, or-true, Bool·beq}
 use mathlib.Core.List.{[], _∷_}
 use mathlib.Core.Path.{_≡_, refl, sym, ap, _∙_}

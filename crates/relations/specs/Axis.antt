@@ -1,5 +1,4 @@
 -- The axis codes: how the primary interval [p1, p2] lies to the reference [q1, q2] on one axis.
--- Assumes nothing.
 use mathlib.Core.Bool.{Bool, cond, _&&_}
 use mathlib.Core.List.{List, [], _∷_}
 use Prim.Native.Nat.{ℕ, suc, _≤_}

@@ -1,5 +1,4 @@
 -- Which configurations can stand inside a page: the thirteen sets, and the quarter-unit rule.
--- Assumes nothing.
 use mathlib.Core.Bool.{Bool, true, _&&_}
 use mathlib.Core.List.{List, [], _∷_}
 use mathlib.Core.Path.{_≡_}

@@ -1,5 +1,4 @@
 -- Queries: the clauses, what they admit, and the answer of the admitted-set call.
--- Assumes nothing.
 use mathlib.Core.Bool.{Bool, true, false, cond, _&&_, _||_}
 use mathlib.Core.List.{List, [], _∷_}
 use Prim.Native.Nat.{ℕ, zero, suc, _^_}

@@ -1,5 +1,4 @@
 -- The relations 0 to 39 as sets of configurations (i, j): i the code on y, j the code on x.
--- Assumes nothing.
 use mathlib.Core.Bool.{Bool, cond, _&&_}
 use mathlib.Core.List.{List, [], _∷_, map}
 use Prim.Native.Nat.{ℕ, zero, suc, _-_, _/_, _%_}
@@ -19,7 +18,7 @@ pub record Codes : Type 0 where
   pub onX : List ℕ
 
 abbrev pub every : List ℕ
-every = 1 to 13
+every = 1 to CODES
 
 -- disjoint, meet, overlap, covered_by, inside, equal, covers, contains: the codes, the same on both axes
 abbrev pub topological : List (List ℕ)

@@ -1,5 +1,4 @@
 -- Sets of codes as lists and as the bits of a number; sums, tests and lists over 0 .. n - 1.
--- Assumes nothing.
 use mathlib.Core.Bool.{Bool, false, cond, _||_}
 use mathlib.Core.List.{List, [], _∷_}
 use Prim.Native.Nat.{ℕ, zero, suc, _+_, _-_, _*_, _/_, _%_, _^_}

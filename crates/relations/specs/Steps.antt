@@ -1,5 +1,4 @@
 -- What the inner functions are held to: the side of a number, rows of one relation and of one clause, and the row sets joined for a page's code.
--- Assumes nothing.
 use mathlib.Core.Bool.{Bool, not, cond, _&&_, _||_}
 use mathlib.Core.List.{List}
 use Prim.Native.Nat.{ℕ, zero, suc, _+_, _-_}

@@ -5,6 +5,7 @@ use native.Mathlib.Nat.{not-suc-le-zero}
 use native.Mathlib.Decide.{ℕ-discrete}
 use mathlib.Core.Path.{_≡_, sym, ap, _∙_}
 use mathlib.Core.List.{List}
+use Rattle.pages.specs.Under.{under, seen}
 use Rattle.pages.specs.declared.Entry.{Entry}
 use Rattle.pages.specs.Sizes.{FEWEST}
 use Rattle.pages.specs.Lists.{sum, sumBelow}
@@ -13,8 +14,6 @@ use Rattle.pages.specs.Sound.{pieceEntries}
 use Rattle.pages.proofs.Lists.{every-map, sum-same}
 use Rattle.pages.proofs.Below.{below-le, below-const}
 use Rattle.pages.proofs.Entries.{leaf-pieces, above-pieces}
-use Rattle.pages.proofs.Walk.{under}
-use Rattle.pages.proofs.Visit.{seen}
 use Rattle.soundness.specs.Steps.{Tree}
 use Rattle.soundness.proofs.Walks.{Child}
 

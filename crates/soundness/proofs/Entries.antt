@@ -7,10 +7,10 @@ use mathlib.Core.Path.{_≡_, refl, sym, ap, subst, _∙_}
 use mathlib.Core.List.{List, [], _∷_, _++_}
 use Rattle.pages.specs.declared.Rect.{Rect}
 use Rattle.pages.specs.declared.Entry.{Entry}
-use Rattle.pages.specs.Lists.{sum}
+use Rattle.pages.specs.Lists.{sum, Every}
 use Rattle.pages.specs.Rectangles.{widen, widenAll, bounds}
 use Rattle.pages.specs.Readers.{entryIn, entriesIn}
-use Rattle.pages.proofs.Lists.{Every, every-append, sum-append}
+use Rattle.pages.proofs.Lists.{every-append, sum-append}
 use Rattle.pages.proofs.Bounds.{widen-last, entries-more}
 
 every-split : (P : Entry → Type 0) (xs ys : List Entry) → Every P (xs ++ ys) → Every P xs × Every P ys

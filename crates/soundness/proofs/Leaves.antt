@@ -8,11 +8,11 @@ use mathlib.Core.List.{List}
 use Rattle.pages.specs.declared.Rect.{Rect}
 use Rattle.pages.specs.declared.Entry.{Entry}
 use Rattle.pages.specs.Sizes.{PIECES}
-use Rattle.pages.specs.Lists.{sum}
+use Rattle.pages.specs.Lists.{sum, Every}
 use Rattle.pages.specs.Rectangles.{widen, widenAll, bounds}
 use Rattle.pages.specs.Readers.{entryIn, entriesIn}
 use Rattle.pages.specs.Sound.{is}
-use Rattle.pages.proofs.Lists.{not-both, Every}
+use Rattle.pages.proofs.Lists.{not-both}
 use Rattle.pages.proofs.Bounds.{length-entries}
 use Rattle.soundness.specs.Steps.{Adds, Piece, Tested, Leafed}
 use Rattle.soundness.proofs.Marks.{adds-none, adds-more, room-left}

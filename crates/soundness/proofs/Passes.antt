@@ -7,6 +7,7 @@ use mathlib.Core.List.{List}
 use lib.ListN.{length, getD, take, drop}
 use lib.Dec.{T, eqb}
 use borrow.Author.Tests.{eq-eqb, ne-eqb}
+use Rattle.pages.specs.Under.{under, seen}
 use Rattle.pages.specs.declared.Entry.{Entry}
 use Rattle.pages.specs.Sizes.{PIECES, PAGE_HEAD, ENTRY_WORDS, PAGE_WORDS, TABLE_HEAD, PAGES, TABLE_WORDS, FEWEST}
 use Rattle.pages.specs.Lists.{one, sumBelow}
@@ -19,8 +20,8 @@ use Rattle.pages.proofs.Facts.{Facts}
 use Rattle.pages.proofs.Whole.{sound-in}
 use Rattle.pages.proofs.Counting.{stored-sum}
 use Rattle.pages.proofs.Entries.{Fits, leaf-pieces, fits-above}
-use Rattle.pages.proofs.Walk.{under, under-root}
-use Rattle.pages.proofs.Visit.{seen, highest, seen-root}
+use Rattle.pages.proofs.Walk.{under-root}
+use Rattle.pages.proofs.Visit.{highest, seen-root}
 use Rattle.soundness.specs.Steps.{Adds, Room, totalOf, visits, stores, Piece, Head, Tree, rootFewest, Rooted}
 use Rattle.soundness.proofs.Words.{first-word, pages-word, pieces-word, tail-words}
 use Rattle.soundness.proofs.Walks.{Child}

@@ -8,18 +8,19 @@ use mathlib.Core.List.{List, [], _∷_}
 use lib.ListN.{length, getD, take, drop}
 use lib.Dec.{T, eqb}
 use borrow.Author.Tests.{eq-eqb, ne-eqb}
+use Rattle.pages.specs.Under.{seen}
 use Rattle.pages.specs.declared.Entry.{Entry}
 use Rattle.pages.specs.Sizes.{PIECES, PAGE_WORDS, TABLE_HEAD, PAGES, TABLE_WORDS, TOP_LEVEL, FEWEST}
-use Rattle.pages.specs.Lists.{one, allOf, sum, sumBelow}
+use Rattle.pages.specs.Lists.{one, allOf, sum, sumBelow, Every}
 use Rattle.pages.specs.Rectangles.{valid, bounds}
 use Rattle.pages.specs.Layout.{noPage, page, tableIn}
 use Rattle.pages.specs.Sound.{childEntries, pieceEntries, is, stored, fewest, soundTable, zeros, soundBlank, sound}
-use Rattle.pages.proofs.Lists.{and, all-of, below-all, Every, every-map}
+use Rattle.pages.proofs.Lists.{and, all-of, below-all, every-map}
 use Rattle.pages.proofs.Below.{below-same, sum-places}
 use Rattle.pages.proofs.Facts.{Facts, sound-of}
 use Rattle.pages.proofs.Counting.{stored-sum}
 use Rattle.pages.proofs.Entries.{leaf-children, leaf-pieces, above-children, above-pieces}
-use Rattle.pages.proofs.Visit.{seen, seen-all, named-once}
+use Rattle.pages.proofs.Visit.{seen-all, named-once}
 use Rattle.soundness.specs.Steps.{visits, stores, Piece, Head, Tree, rootFewest, Rooted}
 use Rattle.soundness.proofs.Words.{first-word, pages-word, tail-words}
 use Rattle.soundness.proofs.Walks.{Child, tree-head}

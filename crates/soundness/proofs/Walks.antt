@@ -8,18 +8,17 @@ use mathlib.Core.Bool.{Bool, true, false, _&&_}
 use mathlib.Core.List.{List}
 use lib.ListN.{length}
 use lib.Dec.{T, eqb}
+use Rattle.pages.specs.Under.{under, seen}
 use Rattle.pages.specs.declared.Rect.{Rect}
 use Rattle.pages.specs.declared.Entry.{Entry}
 use Rattle.pages.specs.Sizes.{PIECES, PAGES, FEWEST}
-use Rattle.pages.specs.Lists.{one, sum}
+use Rattle.pages.specs.Lists.{one, sum, Every}
 use Rattle.pages.specs.Rectangles.{sameRect, widen, widenAll, bounds}
 use Rattle.pages.specs.Layout.{page, tableIn}
 use Rattle.pages.specs.Readers.{entryIn, entriesIn}
-use Rattle.pages.proofs.Lists.{not-both, true-T, T-true, false-T, both, Every}
+use Rattle.pages.proofs.Lists.{not-both, true-T, T-true, false-T, both}
 use Rattle.pages.proofs.Facts.{same-rect, rect-same}
 use Rattle.pages.proofs.Bounds.{length-entries}
-use Rattle.pages.proofs.Walk.{under}
-use Rattle.pages.proofs.Visit.{seen}
 use Rattle.soundness.specs.declared.Visit.{Visit}
 use Rattle.soundness.specs.Steps.{Adds, Room, visits, stores, Head, Tree, Tested, Leafed, Visited, withChild}
 use Rattle.soundness.proofs.Marks.{adds-none, adds-more, room-left}

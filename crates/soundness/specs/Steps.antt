@@ -5,16 +5,14 @@ use mathlib.Core.Bool.{Bool, true, false, _&&_, cond}
 use mathlib.Core.List.{List}
 use lib.ListN.{length, getD, drop}
 use lib.Dec.{T, eqb}
+use Rattle.pages.specs.Under.{under, seen}
 use Rattle.pages.specs.declared.Rect.{Rect}
 use Rattle.pages.specs.declared.Entry.{Entry}
 use Rattle.pages.specs.Sizes.{PIECES, PAGE_HEAD, FANOUT, ENTRY_WORDS, PAGES, TABLE_WORDS, TOP_LEVEL, FEWEST, ROOT_LEAST}
-use Rattle.pages.specs.Lists.{one, sum, sumBelow}
+use Rattle.pages.specs.Lists.{one, sum, sumBelow, Every}
 use Rattle.pages.specs.Rectangles.{valid, sameRect, widen, bounds}
 use Rattle.pages.specs.Layout.{page, pageWords, tableIn}
 use Rattle.pages.specs.Sound.{is, zeros}
-use Rattle.pages.proofs.Lists.{Every}
-use Rattle.pages.proofs.Walk.{under}
-use Rattle.pages.proofs.Visit.{seen}
 use Rattle.soundness.specs.declared.Visit.{Visit}
 
 -- below n, h′ has f q more marks at each q than h, and never two

@@ -1,5 +1,4 @@
 -- The loop counts the runs; the slice stays as long as it was.
--- Assumes nothing.
 use borrow.Author.Needs.{needs}
 use Prim.Native.Nat.{_-_, _≤_}
 use mathlib.Core.Path.{_≡_}

@@ -1,5 +1,4 @@
 -- Each turn takes one byte of the text.
--- Assumes nothing.
 use borrow.Author.Needs.{needs}
 use Prim.Native.Nat.{_-_}
 use lib.ListN.{length}

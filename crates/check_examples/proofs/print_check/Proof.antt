@@ -1,5 +1,4 @@
 -- The front part of the words has the length that was tested.
--- Assumes nothing.
 use borrow.Author.Needs.{needs}
 use native.Mathlib.Omega.{arith}
 use lib.ListN.{length-take}

@@ -1,5 +1,4 @@
 -- The bytes from `from` to the space lie within the text.
--- Assumes nothing.
 use borrow.Author.Needs.{needs}
 use Prim.Native.Nat.{_-_, _≤_}
 use mathlib.Core.Path.{_≡_}

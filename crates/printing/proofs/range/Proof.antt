@@ -1,5 +1,4 @@
 -- The loop counts to `count`.
--- Assumes nothing.
 use borrow.Author.Needs.{needs}
 use Prim.Native.Nat.{_-_, _≤_}
 use Rattle.printing.proofs.range.Statement.{statement}

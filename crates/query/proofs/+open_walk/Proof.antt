@@ -19,7 +19,7 @@ use Rattle.query.proofs.+open_walk.Lts-open_walk as open-walk-lts
 use Rattle.query.proofs.entry_at.Reads as entry-at-reads
 use Rattle.query.proofs.opens.Reads as opens-reads
 use Rattle.query.proofs.size_of.Reads as size-of-reads
-use Rattle.query.proofs.wide.Reads as wide-reads
+use Rattle.query.proofs.to_index.Reads as to-index-reads
 use Rattle.query.proofs.+open_walk.{statement}
 use Rattle.query.proofs.+open_walk.Tie.{close}
 
@@ -34,7 +34,7 @@ open-walk-below t =
     and 4 open-walk-kinds.ps (falls 4 open-walk-kinds.ps _<_ μ-open-walk t) open-walk.Pre
 
 abbrev open-walk-cs : ℕ → open-walk-lts.Claims
-open-walk-cs t = (size-of-reads.Asked, size-of-reads.Learnt, entry-at-reads.Asked, entry-at-reads.Learnt, opens-reads.Asked, opens-reads.Learnt, wide-reads.Asked, wide-reads.Learnt, open-walk-below t, open-walk.Post)
+open-walk-cs t = (size-of-reads.Asked, size-of-reads.Learnt, entry-at-reads.Asked, entry-at-reads.Learnt, opens-reads.Asked, opens-reads.Learnt, to-index-reads.Asked, to-index-reads.Learnt, open-walk-below t, open-walk.Post)
 
 abbrev open-walk-Inv-loop : open-walk-lts.InvT-loop
 open-walk-Inv-loop table reference below masks level p answer₀ at next₀ n i₀ answer next i =
@@ -90,8 +90,8 @@ open-walk-opens-requires t c κs =
 open-walk-sub-open-walk : (t : ℕ) → open-walk-lts.Need-sub-open-walk (open-walk-cs t) (open-walk-at t) open-walk.Post open-walk-Inv-loop open-walk-μ-loop
 open-walk-sub-open-walk t c = search needs
 
-open-walk-wide-requires : (t : ℕ) → open-walk-lts.Need-wide-requires (open-walk-cs t) (open-walk-at t) open-walk.Post open-walk-Inv-loop open-walk-μ-loop
-open-walk-wide-requires t c κs = search needs
+open-walk-to-index-requires : (t : ℕ) → open-walk-lts.Need-to-index-requires (open-walk-cs t) (open-walk-at t) open-walk.Post open-walk-Inv-loop open-walk-μ-loop
+open-walk-to-index-requires t c κs = search needs
 
 open-walk-open-walk-requires : (t : ℕ) → open-walk-lts.Need-open-walk-requires (open-walk-cs t) (open-walk-at t) open-walk.Post open-walk-Inv-loop open-walk-μ-loop
 open-walk-open-walk-requires t c κs =
@@ -105,8 +105,8 @@ open-walk-open-walk-requires t c κs =
     let k : length (l .answer) ≡ length (a .answer .now) = ap length (l .inv .2 .1) ∙ simp (length-sets, length-set) in (
       omega arith,
       (
-        same-page _ _ _ _ (c .before .wide .ensures ∙ ap (λ x. x .r) (e .ensures)) (child-page _ _ _ (g .pre .1 .0) (l .i) z il),
-        rw k (child-room (opensBy (a .below .now) (a .reference .rect)) (tableIn (a .table .now) .pages) (a .level) (a .p) (l .i) (e .result) _ (c .before .wide .ensures) (a .at) (l .next) _ z il (e .ensures) y (l .inv .2 .0) (g .pre .1 .1)),
+        same-page _ _ _ _ (c .before .to-index .ensures ∙ ap (λ x. x .r) (e .ensures)) (child-page _ _ _ (g .pre .1 .0) (l .i) z il),
+        rw k (child-room (opensBy (a .below .now) (a .reference .rect)) (tableIn (a .table .now) .pages) (a .level) (a .p) (l .i) (e .result) _ (c .before .to-index .ensures) (a .at) (l .next) _ z il (e .ensures) y (l .inv .2 .0) (g .pre .1 .1)),
         g .pre .1 .2,
         g .pre .1 .3,
       ),
@@ -164,7 +164,7 @@ pub +open-walk-spec : {M : Type 1} → statement M
     (open-walk-entry-at-requires t)
     (open-walk-opens-requires t)
     (open-walk-sub-open-walk t)
-    (open-walk-wide-requires t)
+    (open-walk-to-index-requires t)
     (open-walk-open-walk-requires t)
     (open-walk-add-i t)
     (open-walk-loop-less t)

@@ -19,7 +19,7 @@ use Rattle.query.proofs.entry_at.Reads as entry-at-reads
 use Rattle.query.proofs.mark_leaf.Reads as mark-leaf-reads
 use Rattle.query.proofs.opens.Reads as opens-reads
 use Rattle.query.proofs.size_of.Reads as size-of-reads
-use Rattle.query.proofs.wide.Reads as wide-reads
+use Rattle.query.proofs.to_index.Reads as to-index-reads
 use Rattle.query.proofs.+walk.{statement}
 use Rattle.query.proofs.+walk.Tie.{close}
 
@@ -33,7 +33,7 @@ abbrev walk-below : ℕ → In 5 walk-kinds.ps
 walk-below t = and 5 walk-kinds.ps (falls 5 walk-kinds.ps _<_ μ-walk t) walk.Pre
 
 abbrev walk-cs : ℕ → walk-lts.Claims
-walk-cs t = (mark-leaf-reads.Asked, mark-leaf-reads.Learnt, size-of-reads.Asked, size-of-reads.Learnt, entry-at-reads.Asked, entry-at-reads.Learnt, opens-reads.Asked, opens-reads.Learnt, wide-reads.Asked, wide-reads.Learnt, walk-below t, walk.Post)
+walk-cs t = (mark-leaf-reads.Asked, mark-leaf-reads.Learnt, size-of-reads.Asked, size-of-reads.Learnt, entry-at-reads.Asked, entry-at-reads.Learnt, opens-reads.Asked, opens-reads.Learnt, to-index-reads.Asked, to-index-reads.Learnt, walk-below t, walk.Post)
 
 abbrev walk-Inv-loop : walk-lts.InvT-loop
 walk-Inv-loop table reference rows below masks level p marks₀ opened count₀ n i₀ marks count i =
@@ -81,8 +81,8 @@ walk-opens-requires t c κs =
 walk-sub-walk : (t : ℕ) → walk-lts.Need-sub-walk (walk-cs t) (walk-at t) walk.Post walk-Inv-loop walk-μ-loop
 walk-sub-walk t c = search needs
 
-walk-wide-requires : (t : ℕ) → walk-lts.Need-wide-requires (walk-cs t) (walk-at t) walk.Post walk-Inv-loop walk-μ-loop
-walk-wide-requires t c κs = search needs
+walk-to-index-requires : (t : ℕ) → walk-lts.Need-to-index-requires (walk-cs t) (walk-at t) walk.Post walk-Inv-loop walk-μ-loop
+walk-to-index-requires t c κs = search needs
 
 walk-walk-requires : (t : ℕ) → walk-lts.Need-walk-requires (walk-cs t) (walk-at t) walk.Post walk-Inv-loop walk-μ-loop
 walk-walk-requires t c κs =
@@ -95,8 +95,8 @@ walk-walk-requires t c κs =
     let y = sym (c .before .before .before .opens .ensures) ∙ c .before .before .if2 .taken in (
       omega arith,
       (
-        same-page _ _ _ _ (c .before .wide .ensures ∙ ap (λ x. x .r) (e .ensures)) (child-page _ _ _ (g .pre .1 .0) (l .i) z il),
-        child-room (opensBy (a .below .now) (a .reference .rect)) (tableIn (a .table .now) .pages) (a .level) (a .p) (l .i) (e .result) _ (c .before .wide .ensures) (a .opened) (l .count) _ z il (e .ensures) y (l .inv .2 .0) (g .pre .1 .1),
+        same-page _ _ _ _ (c .before .to-index .ensures ∙ ap (λ x. x .r) (e .ensures)) (child-page _ _ _ (g .pre .1 .0) (l .i) z il),
+        child-room (opensBy (a .below .now) (a .reference .rect)) (tableIn (a .table .now) .pages) (a .level) (a .p) (l .i) (e .result) _ (c .before .to-index .ensures) (a .opened) (l .count) _ z il (e .ensures) y (l .inv .2 .0) (g .pre .1 .1),
         g .pre .1 .2,
         g .pre .1 .3,
         g .pre .1 .4,
@@ -149,7 +149,7 @@ pub +walk-spec : {M : Type 1} → statement M
     (walk-entry-at-requires t)
     (walk-opens-requires t)
     (walk-sub-walk t)
-    (walk-wide-requires t)
+    (walk-to-index-requires t)
     (walk-walk-requires t)
     (walk-add-i t)
     (walk-loop-less t)

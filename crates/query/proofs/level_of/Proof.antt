@@ -10,16 +10,16 @@ page-of-requires c κs =
     let g = c .before .pre in
     (g .0, page-few _ _ _ (own-page _ (g .0) (g .1) _ (g .2)))
 
-shared-slice-read-wide : tie.Need-shared-slice-read-wide
-shared-slice-read-wide c = search needs
+shared-slice-read-to-index : tie.Need-shared-slice-read-to-index
+shared-slice-read-to-index c = search needs
 
-wide-requires : tie.Need-wide-requires
-wide-requires c κs = search needs
+to-index-requires : tie.Need-to-index-requires
+to-index-requires c κs = search needs
 
 returns : tie.Need-returns
 returns c =
     let g = c .before .before .before .before .pre in
-    c .wide .ensures ∙ level-in _ _ _ (own-page _ (g .0) (g .1) _ (g .2)) _ (c .before .before .page-of .ensures .1)
+    c .to-index .ensures ∙ level-in _ _ _ (own-page _ (g .0) (g .1) _ (g .2)) _ (c .before .before .page-of .ensures .1)
 
 pub level-of-spec : {M : Type 1} → statement M
-level-of-spec = tie.close (tie.spec page-of-requires shared-slice-read-wide wide-requires returns)
+level-of-spec = tie.close (tie.spec page-of-requires shared-slice-read-to-index to-index-requires returns)

@@ -5,17 +5,17 @@ use native.Mathlib.Omega.{arith}
 use mathlib.Core.Path.{_≡_, refl, sym, ap, _∙_}
 use mathlib.Core.Logic.{⊎-elim}
 use lib.ListN.{length, take}
+use Rattle.pages.specs.Lists.{concatMap}
 use Rattle.pages.specs.Layout.{page, tableIn}
-use Rattle.query.specs.Opening.{joined}
 use Rattle.query.specs.Steps.{admitsBy, admittedR, marked}
 use Rattle.query.proofs.Reading.{piece-number}
-use Rattle.query.proofs.Joined.{joined-all}
+use Rattle.query.proofs.Concat.{concat-all}
 use Rattle.query.proofs.Walking.{leaf-hit, leaf-miss}
 use Rattle.query.proofs.mark_leaf.Statement.{statement}
 use Rattle.query.proofs.mark_leaf.Tie as tie
 
 abbrev Inv-loop : tie.InvT-loop
-Inv-loop table reference rows p marks₀ n i₀ marks i = (n ≡ length (page (tableIn table) p .entries)) × (i ≤ n) × (marks ≡ marked marks₀ (joined (admittedR (admitsBy rows (reference .rect))) (take i (page (tableIn table) p .entries))))
+Inv-loop table reference rows p marks₀ n i₀ marks i = (n ≡ length (page (tableIn table) p .entries)) × (i ≤ n) × (marks ≡ marked marks₀ (concatMap (admittedR (admitsBy rows (reference .rect))) (take i (page (tableIn table) p .entries))))
 
 abbrev μ-loop : tie.MeasureT-loop
 μ-loop table reference rows p marks₀ n i₀ marks i = n - i
@@ -64,7 +64,7 @@ returns : tie.Need-returns Inv-loop μ-loop
 returns c =
     let a = c .before .before .before .before .args in
     let l = c .before .loop in
-    l .inv .2 ∙ ap (marked _) (joined-all (admittedR (admitsBy (a .rows .now) (a .reference .rect))) (page (tableIn (a .table .now)) (a .p) .entries) (l .i) (omega arith))
+    l .inv .2 ∙ ap (marked _) (concat-all (admittedR (admitsBy (a .rows .now) (a .reference .rect))) (page (tableIn (a .table .now)) (a .p) .entries) (l .i) (omega arith))
 
 pub mark-leaf-spec : {M : Type 1} → statement M
 mark-leaf-spec =

@@ -5,16 +5,16 @@ use Rattle.soundness.proofs.Words.{root-word}
 use Rattle.query.proofs.root_of.Statement.{statement}
 use Rattle.query.proofs.root_of.Tie as tie
 
-shared-slice-read-wide : tie.Need-shared-slice-read-wide
-shared-slice-read-wide c = search needs
+shared-slice-read-to-index : tie.Need-shared-slice-read-to-index
+shared-slice-read-to-index c = search needs
 
-wide-requires : tie.Need-wide-requires
-wide-requires c κs = search needs
+to-index-requires : tie.Need-to-index-requires
+to-index-requires c κs = search needs
 
 returns : tie.Need-returns
 returns c =
     let g = c .before .before .before in
-    c .wide .ensures ∙ sym (root-word _ (g .pre .0))
+    c .to-index .ensures ∙ sym (root-word _ (g .pre .0))
 
 pub root-of-spec : {M : Type 1} → statement M
-root-of-spec = tie.close (tie.spec shared-slice-read-wide wide-requires returns)
+root-of-spec = tie.close (tie.spec shared-slice-read-to-index to-index-requires returns)

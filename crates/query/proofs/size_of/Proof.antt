@@ -8,15 +8,15 @@ use Rattle.query.proofs.size_of.Tie as tie
 page-of-requires : tie.Need-page-of-requires
 page-of-requires c κs = (c .before .pre .words, page-few _ _ _ (c .before .pre))
 
-shared-slice-read-wide : tie.Need-shared-slice-read-wide
-shared-slice-read-wide c = search needs
+shared-slice-read-to-index : tie.Need-shared-slice-read-to-index
+shared-slice-read-to-index c = search needs
 
-wide-requires : tie.Need-wide-requires
-wide-requires c κs = search needs
+to-index-requires : tie.Need-to-index-requires
+to-index-requires c κs = search needs
 
 returns : tie.Need-returns
 returns c =
-    c .wide .ensures ∙ size-in _ _ _ (c .before .before .before .before .pre) _ (c .before .before .page-of .ensures .1)
+    c .to-index .ensures ∙ size-in _ _ _ (c .before .before .before .before .pre) _ (c .before .before .page-of .ensures .1)
 
 pub size-of-spec : {M : Type 1} → statement M
-size-of-spec = tie.close (tie.spec page-of-requires shared-slice-read-wide wide-requires returns)
+size-of-spec = tie.close (tie.spec page-of-requires shared-slice-read-to-index to-index-requires returns)

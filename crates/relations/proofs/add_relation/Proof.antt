@@ -1,5 +1,4 @@
 -- After h turns the first h rows have the relation's added.
--- Assumes nothing.
 use mathlib.Core.Logic.{⊎-elim}
 use mathlib.Core.Path.{_≡_, _∙_}
 use Prim.Native.Nat.{suc, _-_, _≤_}

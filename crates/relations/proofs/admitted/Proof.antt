@@ -1,5 +1,4 @@
 -- After c clauses the rows are the row sets of those clauses; the ones of the row sets are the count.
--- Assumes nothing.
 use mathlib.Core.List.{List}
 use mathlib.Core.Path.{_≡_, ap, sym, _∙_}
 use Prim.Native.Nat.{ℕ, _-_, _≤_}

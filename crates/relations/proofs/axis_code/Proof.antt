@@ -1,5 +1,4 @@
 -- Each way out is one of the three laws of the code by its sides.
--- Assumes nothing.
 use mathlib.Core.Logic.{⊎-elim, inl, inr}
 use mathlib.Core.Path.{ap, ap₂, _∙_}
 use Prim.Native.Nat.{ℕ, _+_, _*_}

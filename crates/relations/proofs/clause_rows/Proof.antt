@@ -1,5 +1,4 @@
 -- After t turns the rows are those of the clause's relations below t.
--- Assumes nothing.
 use mathlib.Core.List.{List}
 use mathlib.Core.Logic.{⊎-elim}
 use mathlib.Core.Path.{_≡_, ap, _∙_}

@@ -1,5 +1,4 @@
 -- After h turns the first h rows are cut to the clause's.
--- Assumes nothing.
 use mathlib.Core.Path.{_≡_, _∙_}
 use Prim.Native.Nat.{suc, _-_, _≤_}
 use native.Mathlib.Omega.{arith}

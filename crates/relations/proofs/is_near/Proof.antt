@@ -1,5 +1,4 @@
 -- The three codes of what lies beyond are not open.
--- Assumes nothing.
 use borrow.Author.Needs.{needs}
 use mathlib.Core.Path.{sym, ap, _∙_}
 use mathlib.Core.Bool.{not, and-false}

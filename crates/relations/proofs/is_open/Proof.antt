@@ -1,5 +1,4 @@
 -- One of the two page tests passes.
--- Assumes nothing.
 use borrow.Author.Needs.{needs}
 use mathlib.Core.Path.{sym, _∙_}
 use Rattle.relations.specs.Steps.{openAt}

@@ -1,5 +1,4 @@
 -- Each line is the union that the thirteen sets give, without the empty rows between.
--- Assumes nothing.
 use borrow.Author.Needs.{needs}
 use Rattle.relations.specs.Sets.{listed}
 use Rattle.relations.specs.Nodes.{inside}

@@ -1,5 +1,4 @@
 -- The test of a bit is the definition.
--- Assumes nothing.
 use mathlib.Core.Path.{refl}
 use borrow.Author.Needs.{needs}
 use Rattle.relations.specs.Sets.{bit}

@@ -1,5 +1,4 @@
 -- The table is the thirteen sets.
--- Assumes nothing.
 use Rattle.relations.proofs.Quarter.{masks-are}
 use Rattle.relations.proofs.node_masks.Statement.{statement}
 use Rattle.relations.proofs.node_masks.Tie as tie

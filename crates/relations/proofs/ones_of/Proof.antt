@@ -1,5 +1,4 @@
 -- After i turns the count is the ones of the first i rows, at most 16 each.
--- Assumes nothing.
 use mathlib.Core.Path.{_≡_, refl, ap, sym, _∙_}
 use Prim.Native.Nat.{ℕ, _+_, _*_, _-_, _≤_}
 use native.Mathlib.Numerals.{add-one}

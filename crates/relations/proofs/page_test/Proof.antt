@@ -1,5 +1,4 @@
 -- Two numbers of thirteen bits share one exactly when their `and` is not zero.
--- Assumes nothing.
 use borrow.Author.Needs.{needs}
 use Rattle.relations.proofs.Pages.{tested}
 use Rattle.relations.proofs.page_test.Statement.{statement}

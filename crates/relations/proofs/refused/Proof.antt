@@ -1,5 +1,4 @@
 -- Before clause c no clause was bad, so what is left decides.
--- Assumes nothing.
 use mathlib.Core.Path.{_≡_, refl, ap, sym, _∙_}
 use Prim.Native.Nat.{ℕ, _-_, _≤_}
 use native.Mathlib.Omega.{arith}

@@ -1,5 +1,4 @@
 -- Each arm reads the tables that the computed tests of `Tables` hold to the code lists.
--- Assumes nothing.
 use native.Mathlib.Omega.{arith}
 use borrow.Author.Needs.{needs}
 use Rattle.relations.proofs.Tables.{topo-sets, north-sets, east-sets, south-sets, west-sets, no-sets}

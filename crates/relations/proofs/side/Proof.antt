@@ -1,5 +1,4 @@
 -- The sum of two comparisons is the side.
--- Assumes nothing.
 use native.Mathlib.Omega.{arith}
 use borrow.Author.Needs.{needs}
 use Rattle.relations.proofs.Sides.{side-bytes, side-lt}

@@ -1,5 +1,4 @@
 -- The loop counts to 40.
--- Assumes nothing.
 use Prim.Native.Nat.{_-_, _≤_}
 use borrow.Author.Needs.{needs}
 use Rattle.relations_examples.proofs.every_relation.Statement.{statement}

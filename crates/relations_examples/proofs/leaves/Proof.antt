@@ -1,5 +1,4 @@
 -- Places 0 to 168 give codes 1 to 13, and the count is at most the places passed.
--- Assumes nothing.
 use mathlib.Core.Logic.{⊎-elim}
 use Prim.Native.Nat.{_-_, _≤_}
 use native.Mathlib.Omega.{arith}

@@ -1,5 +1,4 @@
 -- What `axis_code` gives is a code.
--- Assumes nothing.
 use borrow.Author.Needs.{needs}
 use Rattle.relations.proofs.Sides.{coded}
 use Rattle.relations_examples.proofs.page.Statement.{statement}

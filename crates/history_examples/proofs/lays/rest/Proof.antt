@@ -1,5 +1,4 @@
 -- A remainder is below its divisor.
--- Assumes nothing.
 use borrow.Author.Needs.{needs}
 use native.Mathlib.Omega.{arith}
 use native.Mathlib.Nat.{mod-lt}

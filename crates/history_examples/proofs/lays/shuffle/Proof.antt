@@ -1,5 +1,4 @@
 -- i falls from 1,023; the slice stays as long as it was.
--- Assumes nothing.
 use borrow.Author.Needs.{needs}
 use Prim.Native.Nat.{_≤_}
 use mathlib.Core.Path.{_≡_}

@@ -1,5 +1,4 @@
 -- The part has the length that was tested.
--- Assumes nothing.
 use borrow.Author.Needs.{needs}
 use native.Mathlib.Omega.{arith}
 use lib.ListN.{length-take}

@@ -1,5 +1,4 @@
 -- The loop counts the stops; both slices stay as long as they were.
--- Assumes nothing.
 use borrow.Author.Needs.{needs}
 use Prim.Native.Nat.{_-_, _≤_}
 use mathlib.Core.Path.{_≡_}

@@ -1,5 +1,4 @@
 -- Two words have a product below 2^64.
--- Assumes nothing.
 use borrow.Author.Needs.{needs}
 use native.Mathlib.Omega.{arith}
 use native.Mathlib.Nat.{mul-le-mul}

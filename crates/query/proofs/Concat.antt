@@ -7,35 +7,35 @@ use mathlib.Core.Path.{_≡_, refl, ap, _∙_}
 use mathlib.Core.List.{List, [], _∷_, _++_, append-assoc}
 use lib.ListN.{length, getD, take, set, length-set, length-append}
 use lib.Seq.{sets, take-all}
-use Rattle.query.specs.Opening.{joined}
+use Rattle.pages.specs.Lists.{concatMap}
 use Rattle.query.specs.Steps.{withMark, marked}
 
 module _ {A B : Type 0} (f : A → List B) where
-  pub joined-append : (xs ys : List A) → joined f (xs ++ ys) ≡ joined f xs ++ joined f ys
-  joined-append [] ys = refl
-  joined-append (x ∷ xs) ys = rw (append-assoc, joined-append xs ys)
+  pub concat-append : (xs ys : List A) → concatMap f (xs ++ ys) ≡ concatMap f xs ++ concatMap f ys
+  concat-append [] ys = refl
+  concat-append (x ∷ xs) ys = rw (append-assoc, concat-append xs ys)
 
-  pub joined-next : (xs : List A) (i : ℕ) (d : A) → i < length xs → joined f (take (i + 1) xs) ≡ joined f (take i xs) ++ f (getD xs i d)
-  joined-next xs i d l = rw add-one (go xs i l)
+  pub concat-next : (xs : List A) (i : ℕ) (d : A) → i < length xs → concatMap f (take (i + 1) xs) ≡ concatMap f (take i xs) ++ f (getD xs i d)
+  concat-next xs i d l = rw add-one (go xs i l)
     where
       empty-end : (ys : List B) → ys ++ [] ≡ ys
       empty-end [] = refl
       empty-end (y ∷ ys) = ap (_∷_ y) (empty-end ys)
 
-      go : (ys : List A) (j : ℕ) → j < length ys → joined f (take (suc j) ys) ≡ joined f (take j ys) ++ f (getD ys j d)
+      go : (ys : List A) (j : ℕ) → j < length ys → concatMap f (take (suc j) ys) ≡ concatMap f (take j ys) ++ f (getD ys j d)
       go [] j k = absurd (not-suc-le-zero k)
       go (y ∷ ys) zero k = empty-end (f y)
       go (y ∷ ys) (suc j) k = rw (append-assoc) (ap (λ z. f y ++ z) (go ys j (le-of-suc-le-suc k)))
 
-  pub joined-all : (xs : List A) (i : ℕ) → length xs ≤ i → joined f (take i xs) ≡ joined f xs
-  joined-all xs i l = ap (joined f) (take-all i xs l)
+  pub concat-all : (xs : List A) (i : ℕ) → length xs ≤ i → concatMap f (take i xs) ≡ concatMap f xs
+  concat-all xs i l = ap (concatMap f) (take-all i xs l)
 
   -- what one element adds is no longer than what all add
-  pub joined-room : (xs : List A) (i : ℕ) (d : A) → i < length xs → length (joined f (take i xs)) + length (f (getD xs i d)) ≤ length (joined f xs)
-  joined-room [] i d l = absurd (not-suc-le-zero l)
-  joined-room (x ∷ xs) zero d l = omega (arith, length-append (f x) (joined f xs))
-  joined-room (x ∷ xs) (suc i) d l =
-      omega (arith, length-append (f x) (joined f xs), length-append (f x) (joined f (take i xs)), joined-room xs i d (le-of-suc-le-suc l))
+  pub concat-room : (xs : List A) (i : ℕ) (d : A) → i < length xs → length (concatMap f (take i xs)) + length (f (getD xs i d)) ≤ length (concatMap f xs)
+  concat-room [] i d l = absurd (not-suc-le-zero l)
+  concat-room (x ∷ xs) zero d l = omega (arith, length-append (f x) (concatMap f xs))
+  concat-room (x ∷ xs) (suc i) d l =
+      omega (arith, length-append (f x) (concatMap f xs), length-append (f x) (concatMap f (take i xs)), concat-room xs i d (le-of-suc-le-suc l))
 
 pub marked-append : (m xs ys : List ℕ) → marked m (xs ++ ys) ≡ marked (marked m xs) ys
 unfolding marked
