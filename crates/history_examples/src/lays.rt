@@ -126,19 +126,19 @@ fn tiny(c: u32, x: u32) -> Call
     let d = step(b);
     let e = step(d);
     Call {
-        number: 341 * c % 1_024,
+        number: 341 * c % pages::PIECES,
         rect: sized(below(a, 8), below(b, 8), 1 + below(d, 4), 1 + below(e, 4)),
         x: e,
     }
 }
 
-// One edge beyond the cloth in two cases of sixteen.
+// One edge above 1,000,000 in two cases of sixteen.
 fn faulty(r: Rect, fault: u32) -> Rect {
     if fault == 0 {
         return Rect {
             x1: r.x1,
             y1: r.y1,
-            x2: 1_000_001,
+            x2: pages::EDGE + 1,
             y2: r.y2,
         };
     }
@@ -147,7 +147,7 @@ fn faulty(r: Rect, fault: u32) -> Rect {
             x1: r.x1,
             y1: r.y1,
             x2: r.x2,
-            y2: 1_000_001,
+            y2: pages::EDGE + 1,
         };
     }
     r
@@ -172,7 +172,11 @@ fn refused(x: u32) -> Call {
 fn from_last(i: u32) -> u32
     ensures { λ r. ⌜ r < 1024 ⌝ }
 {
-    if i < 1_024 { 1_023 - i } else { 0 }
+    if i < pages::PIECES {
+        pages::PIECES - 1 - i
+    } else {
+        0
+    }
 }
 
 fn call_at(lay: Lay, i: u32, x: u32) -> Call

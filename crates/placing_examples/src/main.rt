@@ -12,8 +12,10 @@ use printing::store;
 use printing::text;
 use printing::word;
 
+const ANSWER_WORDS: usize = pages::PIECES as usize;
+
 // One word less than a table.
-const SHORT: usize = 14_324;
+const SHORT: usize = pages::TABLE_WORDS - 1;
 
 fn rect(x1: u32, y1: u32, x2: u32, y2: u32) -> Rect {
     Rect { x1, y1, x2, y2 }
@@ -123,7 +125,7 @@ fn unsound_calls(table: &mut [u32]) {
 }
 
 fn main() {
-    let mut answer = [0u16; 1_024];
+    let mut answer = [0u16; ANSWER_WORDS];
     let mut table = [0u32; pages::TABLE_WORDS];
     place_nine(&mut table);
     print_nine(&table, &mut answer);

@@ -16,10 +16,10 @@ use queries::THREE_LEVELS_QUERIES;
 use tables::NINE_PIECES;
 use tables::THREE_LEVELS;
 
-const ANSWER_WORDS: usize = 1_024;
+const ANSWER_WORDS: usize = pages::PIECES as usize;
 
 // One word less than a table.
-const SHORT: usize = 14_324;
+const SHORT: usize = pages::TABLE_WORDS - 1;
 
 // What the answer slice holds before each call.
 const BLANK: u16 = 7;
