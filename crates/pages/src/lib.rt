@@ -3,7 +3,7 @@ ghost use mathlib.Core.Path.{_≡_};
 ghost use Prim.Native.Nat.{_+_, _*_, _≤_, _<_, min, max};
 ghost use lib.ListN.{length};
 ghost use Rattle.pages.specs.Sizes.{PAGE_WORDS, PAGES, TABLE_WORDS, FANOUT};
-ghost use Rattle.pages.specs.Rectangles.{valid, sameRect, widen, bounds};
+ghost use Rattle.pages.specs.Rectangles.{rectOf, valid, sameRect, widen, bounds};
 ghost use Rattle.pages.specs.Layout.{pageWords};
 ghost use Rattle.pages.specs.Readers.{entryIn, entriesIn};
 ghost use Rattle.pages.specs.Calls.{emptyCall};
@@ -24,6 +24,9 @@ pub const COUNT: usize = 1;
 pub const FANOUT: usize = 8;
 
 pub const ENTRY_WORDS: usize = 5;
+
+// The place of r among an entry's words, behind the four edges.
+pub const ENTRY_R: usize = 4;
 
 pub const PAGE_WORDS: usize = 42;
 
@@ -96,6 +99,18 @@ pub fn is_valid(r: Rect) -> bool
     true
 }
 
+// The rectangle of zero words: that of a blank entry, and the bounds of none.
+pub fn no_rect() -> Rect
+    ensures { λ r. ⌜ r ≡ rectOf 0 0 0 0 ⌝ }
+{
+    Rect {
+        x1: 0,
+        y1: 0,
+        x2: 0,
+        y2: 0,
+    }
+}
+
 pub fn same_rect(a: Rect, b: Rect) -> bool
     ensures { λ r. ⌜ r ≡ sameRect a b ⌝ }
 {
@@ -160,7 +175,7 @@ pub fn entry_of(page: &[u32], i: usize) -> Entry
             x2: page[at + 2],
             y2: page[at + 3],
         },
-        r: page[at + 4],
+        r: page[at + ENTRY_R],
     }
 }
 

@@ -18,7 +18,7 @@ use Rattle.pages.specs.Readers.{entryIn, entriesIn}
 use Rattle.pages.proofs.Bounds.{length-entries, entries-more}
 use Rattle.placing.specs.declared.choice.Best.{Best}
 use Rattle.placing.specs.Place.{area, growth, before, scan, choose}
-use Rattle.placing.specs.Parts.{bestOf, less, better}
+use Rattle.placing.specs.Parts.{bestOf, comesBefore, better}
 use Rattle.placing.specs.Steps.{countIn, chosenIn}
 use Rattle.placing.proofs.Fill.{choose-below}
 
@@ -43,20 +43,20 @@ cost-is r new w old grown i p q s = rw (s, q, p)
 pub cost-fits : (r new w : Rect) (old grown : ℕ) → old ≡ area r → w ≡ widen r new → grown ≡ area w → old ≤ grown
 cost-fits r new w old grown p q s = rw (s, q, p) (area-widen r new)
 
-pub less-tie : (a b : Best) → a .growth ≡ b .growth → ltb (a .area) (b .area) ≡ less a b
-less-tie a b h = rw (le-ltb (a .growth) (b .growth) (omega arith), eq-eqb (a .growth) (b .growth) h)
+pub before-tie : (a b : Best) → a .growth ≡ b .growth → ltb (a .area) (b .area) ≡ comesBefore a b
+before-tie a b h = rw (le-ltb (a .growth) (b .growth) (omega arith), eq-eqb (a .growth) (b .growth) h)
 
-pub less-other : (a b : Best) → (a .growth ≡ b .growth → ⊥) → ltb (a .growth) (b .growth) ≡ less a b
-less-other a b h = rw (ne-eqb (a .growth) (b .growth) h) (go (ltb (a .growth) (b .growth)))
+pub before-other : (a b : Best) → (a .growth ≡ b .growth → ⊥) → ltb (a .growth) (b .growth) ≡ comesBefore a b
+before-other a b h = rw (ne-eqb (a .growth) (b .growth) h) (go (ltb (a .growth) (b .growth)))
   where
     go : (t : Bool) → t ≡ t || false
     go true = refl
     go false = refl
 
-pub better-first : (a b : Best) (t : Bool) → t ≡ less a b → t ≡ true → a ≡ better a b
+pub better-first : (a b : Best) (t : Bool) → t ≡ comesBefore a b → t ≡ true → a ≡ better a b
 better-first a b t p q = rw (← p, q)
 
-pub better-second : (a b : Best) (t : Bool) → t ≡ less a b → t ≡ false → b ≡ better a b
+pub better-second : (a b : Best) (t : Bool) → t ≡ comesBefore a b → t ≡ false → b ≡ better a b
 better-second a b t p q = rw (← p, q)
 
 -- the choice with the costs beside it
@@ -66,7 +66,7 @@ pick new b next (e ∷ es) = pick new (better (bestOf new (e .rect) next) b) (su
 
 better-is : (new r s : Rect) (i j : ℕ) → better (bestOf new r i) (bestOf new s j) ≡ bestOf new (cond (before new r s) r s) (cond (before new r s) i j)
 unfolding before
-better-is new r s i j = go (less (bestOf new r i) (bestOf new s j))
+better-is new r s i j = go (comesBefore (bestOf new r i) (bestOf new s j))
   where
     go : (b : Bool) → cond b (bestOf new r i) (bestOf new s j) ≡ bestOf new (cond b r s) (cond b i j)
     go true = refl

@@ -17,16 +17,16 @@ use Rattle.pages.specs.Layout.{Page, pageOf, noEntry, noPage, pageAt, encodePag
 use Rattle.pages.specs.Readers.{entryIn}
 use Rattle.pages.proofs.Cells.{entry-in}
 use Rattle.placing.specs.Place.{choose, Step, stepOf, fill, entryFor, renew, down}
-use Rattle.placing.specs.Steps.{entrySet, putPage, writtenOf, addTo, entryAt, resetEntry, widenedBy, widenEntry, settled, chosenIn, placeAt}
+use Rattle.placing.specs.Steps.{entrySet, putPage, writtenOf, addTo, entryForIn, resetEntry, widenedBy, widenEntry, settled, chosenIn, placeAt}
 use Rattle.placing.proofs.Fill.{spread, choose-below}
 use Rattle.placing.proofs.Keeps.{After, Before, child, child-in, child-level, child-around, one-T, after}
 use Rattle.placing.proofs.PageWords.{filled-in, entry-set}
-use Rattle.placing.proofs.TableWords.{tabled, pages-word, page-words, entry-at, page-set}
+use Rattle.placing.proofs.TableWords.{tabled, pages-word, page-words, entry-for, page-set}
 use Rattle.placing.proofs.Adding.{written, fill-kept, fill-grows, add-fill}
 
 -- the definitions, one step opened
 
-reset-open : (t : List ℕ) (p i q : ℕ) → resetEntry t p i q ≡ putPage t p (entrySet (pageWords t p) i (entryAt t q))
+reset-open : (t : List ℕ) (p i q : ℕ) → resetEntry t p i q ≡ putPage t p (entrySet (pageWords t p) i (entryForIn t q))
 unfolding resetEntry
 reset-open t p i q = refl
 
@@ -35,7 +35,7 @@ unfolding widenEntry
 widen-open t p i new = refl
 
 settle-open : (p i q : ℕ) (new : Rect) (t : List ℕ) (b : Bool) → settled p i q new (writtenOf t b)
-    ≡ cond b (addTo (resetEntry t p i q) p (entryAt (resetEntry t p i q) (getD (resetEntry t p i q) 0 0 - 1))) (writtenOf (widenEntry t p i new) false)
+    ≡ cond b (addTo (resetEntry t p i q) p (entryForIn (resetEntry t p i q) (getD (resetEntry t p i q) 0 0 - 1))) (writtenOf (widenEntry t p i new) false)
 unfolding settled
 settle-open p i q new t b = refl
 
@@ -81,15 +81,15 @@ module _ (a c : ℕ) (rest : List ℕ) (s : Step) (new : Rect) (p i : ℕ) (pl :
 
   reset-is : resetEntry (tabled a c ps rest) p i q ≡ tabled a c qs rest
   reset-is = reset-open (tabled a c ps rest) p i q
-      ∙ rw (page-words a c ps rest p (omega arith), entry-at a c ps rest q (omega arith) (eight q ql), entry-set g i (entryFor q ps) il (eight p pl), page-set a c ps rest p (pageOf (g .level) es) pl (omega arith))
+      ∙ rw (page-words a c ps rest p (omega arith), entry-for a c ps rest q (omega arith) (eight q ql), entry-set g i (entryFor q ps) il (eight p pl), page-set a c ps rest p (pageOf (g .level) es) pl (omega arith))
 
   -- without a split the bounds are the old ones, widened
   module _ (w : bounds (pageAt ps q .entries) ≡ widen (x .rect) new) where
-    widened : widenedBy new (entryIn (pageWords (tabled a c ps rest) p) i) ≡ entryAt (tabled a c ps rest) q
+    widened : widenedBy new (entryIn (pageWords (tabled a c ps rest) p) i) ≡ entryForIn (tabled a c ps rest) q
     widened =
         ap (λ v. widenedBy new (entryIn v i)) (page-words a c ps rest p (omega arith))
         ∙ (ap (widenedBy new) (entry-in g i (omega (arith, eight p pl)))
-        ∙ (ap (λ r. entryOf r q) (sym w) ∙ (sym (entry-open q ps) ∙ sym (entry-at a c ps rest q (omega arith) (eight q ql)))))
+        ∙ (ap (λ r. entryOf r q) (sym w) ∙ (sym (entry-open q ps) ∙ sym (entry-for a c ps rest q (omega arith) (eight q ql)))))
 
     widen-is : widenEntry (tabled a c ps rest) p i new ≡ tabled a c qs rest
     widen-is = widen-open (tabled a c ps rest) p i new
@@ -114,11 +114,11 @@ module _ (a c : ℕ) (rest : List ℕ) (s : Step) (new : Rect) (p i : ℕ) (pl :
     here : pageAt qs p ≡ pageOf (g .level) es
     here = getD-set-same ps p (pageOf (g .level) es) noPage pl
 
-    last-is : entryAt (tabled a c qs rest) (getD (tabled a c qs rest) 0 0 - 1) ≡ y
+    last-is : entryForIn (tabled a c qs rest) (getD (tabled a c qs rest) 0 0 - 1) ≡ y
     last-is =
         let e : getD (tabled a c qs rest) 0 0 - 1 ≡ m = omega (arith, pages-word a c qs rest, length-set ps p (pageOf (g .level) es)) in
-        ap (entryAt (tabled a c qs rest)) e
-        ∙ (entry-at a c qs rest m (omega arith) (subst (λ x. length (x .entries) ≤ FANOUT) (sym same-last) (eight m (omega arith))) ∙ same-entry m ps qs same-last)
+        ap (entryForIn (tabled a c qs rest)) e
+        ∙ (entry-for a c qs rest m (omega arith) (subst (λ x. length (x .entries) ≤ FANOUT) (sym same-last) (eight m (omega arith))) ∙ same-entry m ps qs same-last)
 
     fill-is : fill p (pageAt qs p .entries ++ (y ∷ [])) qs ≡ fill p (es ++ (y ∷ [])) ps
     fill-is = ap (λ x. fill p (x .entries ++ (y ∷ [])) qs) here ∙ refill p (es ++ (y ∷ [])) ps (pageOf (g .level) es) pl refl
@@ -126,7 +126,7 @@ module _ (a c : ℕ) (rest : List ℕ) (s : Step) (new : Rect) (p i : ℕ) (pl :
     settle-split : length (fill p (es ++ (y ∷ [])) ps .pages) ≤ PAGES → settled p i q new (writtenOf (tabled a c ps rest) true) ≡ written a c rest (fill p (es ++ (y ∷ [])) ps)
     settle-split h =
         settle-open p i q new (tabled a c ps rest) true
-        ∙ (ap (λ t. addTo t p (entryAt t (getD t 0 0 - 1))) reset-is
+        ∙ (ap (λ t. addTo t p (entryForIn t (getD t 0 0 - 1))) reset-is
         ∙ (ap (addTo (tabled a c qs rest) p) last-is
         ∙ (add-fill a c qs rest p y (omega (arith, length-set ps p (pageOf (g .level) es))) (omega arith)
         (omega (arith, ap (λ x. length (x .entries)) here, length-set (g .entries) i (entryFor q ps), eight p pl))

@@ -23,17 +23,17 @@ use Rattle.pages.proofs.Counting.{count-few}
 use Rattle.soundness.proofs.Words as slice
 use Rattle.placing.specs.Place.{Step, entryFor, newRoot, place}
 use Rattle.placing.specs.Calls.{placedWords}
-use Rattle.placing.specs.Steps.{putPage, Written, writtenOf, entryAt, placeAt, rootMade, placeIn, heldIn, heldBelow}
+use Rattle.placing.specs.Steps.{putPage, Written, writtenOf, entryForIn, placeAt, rootMade, placeIn, heldIn, heldBelow}
 use Rattle.placing.proofs.Placed.{before, rootStep, root-after, place-sound}
 use Rattle.placing.proofs.PageWords.{filled-in}
-use Rattle.placing.proofs.TableWords.{tabled, tabled-in, pages-word, root-word, pieces-word, page-words, entry-at, root-set, pieces-set, page-append}
+use Rattle.placing.proofs.TableWords.{tabled, tabled-in, pages-word, root-word, pieces-word, page-words, entry-for, root-set, pieces-set, page-append}
 use Rattle.placing.proofs.Descent.{place-down}
 
 -- the definitions, one step opened
 
 root-open : (t : List ℕ) (r level : ℕ) → rootMade t r level
     ≡ cond (ltb (getD t 0 0) PAGES)
-    (set (set (putPage t (getD t 0 0) (encodePage (pageOf level (entryAt t r ∷ entryAt t (getD t 0 0 - 1) ∷ [])))) 0 (getD t 0 0 + 1)) 1 (getD t 0 0)) t
+    (set (set (putPage t (getD t 0 0) (encodePage (pageOf level (entryForIn t r ∷ entryForIn t (getD t 0 0 - 1) ∷ [])))) 0 (getD t 0 0 + 1)) 1 (getD t 0 0)) t
 unfolding rootMade
 root-open t r level = refl
 
@@ -70,8 +70,8 @@ root-made a c ps rest r level rl most eight lv =
     let k : ℕ = length ps in
     let top : Page = pageOf (suc (pageAt ps r .level)) (entryFor r ps ∷ entryFor (k - 1) ps ∷ []) in
     let lv′ : level + 1 ≡ suc (pageAt ps r .level) = omega arith in
-    let e1 : entryAt w r ≡ entryFor r ps = entry-at a c ps rest r (omega arith) (eight r rl) in
-    let e2 : entryAt w (k - 1) ≡ entryFor (k - 1) ps = entry-at a c ps rest (k - 1) (omega arith) (eight (k - 1) (omega arith)) in
+    let e1 : entryForIn w r ≡ entryFor r ps = entry-for a c ps rest r (omega arith) (eight r rl) in
+    let e2 : entryForIn w (k - 1) ≡ entryFor (k - 1) ps = entry-for a c ps rest (k - 1) (omega arith) (eight (k - 1) (omega arith)) in
     root-open w r (level + 1)
     ∙ rw (pages-word a c ps rest, lt-ltb k PAGES most, e1, e2, lv′, page-append a c ps rest top most, root-set a c (ps ++ (top ∷ [])) rest k, new-open r ps)
 

@@ -16,7 +16,7 @@ use Rattle.pages.specs.Rectangles.{rectOf, entryOf, widen, bounds}
 use Rattle.pages.specs.Layout.{pageOf, encodePage, pageWords}
 use Rattle.pages.specs.Readers.{entryIn, entriesIn}
 use Rattle.placing.specs.Place.{ordered}
-use Rattle.placing.specs.Steps.{countIn, appended, entrySet, putPage, splitInto, Written, writtenOf, addTo, boundsAt, entryAt, resetEntry, widenEntry, settled, chosenIn, placeAt, rootMade, placeIn}
+use Rattle.placing.specs.Steps.{countIn, appended, entrySet, putPage, splitInto, Written, writtenOf, addTo, boundsAt, entryForIn, resetEntry, widenEntry, settled, chosenIn, placeAt, rootMade, placeIn}
 
 -- the answer and the words of a step
 abbrev pub Leaves : Written → Bool → List ℕ → Type 0
@@ -30,16 +30,14 @@ bounds-zero : (w : List ℕ) → rectOf 0 0 0 0 ≡ bounds (entriesIn w 0)
 unfolding bounds entriesIn
 bounds-zero w = refl
 
-pub bounds-none : (t w : List ℕ) (q n : ℕ) → q < PAGES → w ≡ pageWords t q → n ≡ countIn w → n ≤ 0 → rectOf 0 0 0 0 ≡ boundsAt t q
-bounds-none t w q n h p c z =
-    let e : n ≡ 0 = omega arith in
-    bounds-some t w q n (rectOf 0 0 0 0) h p c (bounds-zero w ∙ ap (λ m. bounds (entriesIn w m)) (sym e))
+pub bounds-none : (t w : List ℕ) (q n : ℕ) → q < PAGES → w ≡ pageWords t q → n ≡ countIn w → n ≡ 0 → rectOf 0 0 0 0 ≡ boundsAt t q
+bounds-none t w q n h p c z = bounds-some t w q n (rectOf 0 0 0 0) h p c (bounds-zero w ∙ ap (λ m. bounds (entriesIn w m)) (sym z))
 
 pub bounds-out : (t : List ℕ) (q : ℕ) → PAGES ≤ q → rectOf 0 0 0 0 ≡ boundsAt t q
 unfolding boundsAt
 bounds-out t q h = rw (le-ltb q PAGES h)
 
-pub reset-is : (t v : List ℕ) (p i q : ℕ) (e : Entry) → e ≡ entryAt t q → v ≡ putPage t p (entrySet (pageWords t p) i e) → v ≡ resetEntry t p i q
+pub reset-is : (t v : List ℕ) (p i q : ℕ) (e : Entry) → e ≡ entryForIn t q → v ≡ putPage t p (entrySet (pageWords t p) i e) → v ≡ resetEntry t p i q
 unfolding resetEntry
 reset-is t v p i q e a b = b ∙ ap (λ x. putPage t p (entrySet (pageWords t p) i x)) a
 
@@ -75,7 +73,7 @@ module _ (t : List ℕ) (p : ℕ) (e : Entry) (b : Bool) (full : b ≡ leb FANOU
   unfolding addTo
   add-out h k = rw (le-ltb (getD (pageWords t p) 1 0) FANOUT (none h), le-ltb (getD t 0 0) PAGES k) (refl, refl)
 
-pub settled-split : (t u v : List ℕ) (p i q : ℕ) (new : Rect) (b r : Bool) (e : Entry) → b ≡ true → u ≡ resetEntry t p i q → e ≡ entryAt u (getD u 0 0 - 1) → Leaves (addTo u p e) r v
+pub settled-split : (t u v : List ℕ) (p i q : ℕ) (new : Rect) (b r : Bool) (e : Entry) → b ≡ true → u ≡ resetEntry t p i q → e ≡ entryForIn u (getD u 0 0 - 1) → Leaves (addTo u p e) r v
     → Leaves (settled p i q new (writtenOf t b)) r v
 unfolding settled
 settled-split t u v p i q new b r e h a d f = rw (h, ← a, ← d) f
@@ -105,7 +103,7 @@ place-step l t w p i q e b r u v h f a c d x y =
     let s : writtenOf u b ≡ placeAt (l - 1) t q e = λ j. record { words = x .1 j; split = x .0 j } in
     rw (place-above l t w p i q e h f a c d, ← s) y
 
-pub root-made : (t u : List ℕ) (r l : ℕ) (a b : Entry) → getD t 0 0 < PAGES → a ≡ entryAt t r → b ≡ entryAt t (getD t 0 0 - 1)
+pub root-made : (t u : List ℕ) (r l : ℕ) (a b : Entry) → getD t 0 0 < PAGES → a ≡ entryForIn t r → b ≡ entryForIn t (getD t 0 0 - 1)
     → u ≡ putPage t (getD t 0 0) (encodePage (pageOf l (a ∷ b ∷ []))) → set (set u 0 (getD t 0 0 + 1)) 1 (getD t 0 0) ≡ rootMade t r l
 unfolding rootMade
 root-made t u r l a b h p q e = rw (lt-ltb (getD t 0 0) PAGES h, e, p, q)

@@ -16,7 +16,7 @@ use Rattle.pages.proofs.Round.{size-page, length-encode, encode-page, words-of-
 use Rattle.pages.proofs.Over.{over, over-past}
 use Rattle.pages.proofs.Whole.{sound-is}
 use Rattle.placing.specs.Place.{entryFor}
-use Rattle.placing.specs.Steps.{filledIn, putPage, boundsAt, entryAt}
+use Rattle.placing.specs.Steps.{filledIn, putPage, boundsAt, entryForIn}
 use Rattle.placing.proofs.PageWords.{filled-in, others-same}
 
 -- the words of a table with the root a, the count c and the pages ps, and the words rest after them
@@ -57,9 +57,9 @@ module _ (a c : ℕ) (ps : List Page) (rest : List ℕ) where
   unfolding boundsAt
   bounds-at q l m = rw (lt-ltb q PAGES l) (ap (λ w. bounds (filledIn w)) (page-words q l) ∙ ap bounds (filled-in (pageAt ps q) m))
 
-  pub entry-at : (q : ℕ) → q < PAGES → length (pageAt ps q .entries) ≤ FANOUT → entryAt (tabled a c ps rest) q ≡ entryFor q ps
+  pub entry-for : (q : ℕ) → q < PAGES → length (pageAt ps q .entries) ≤ FANOUT → entryForIn (tabled a c ps rest) q ≡ entryFor q ps
   unfolding entryFor
-  entry-at q l m = ap (λ r. entryOf r q) (bounds-at q l m)
+  entry-for q l m = ap (λ r. entryOf r q) (bounds-at q l m)
 
   -- writing
 

@@ -6,7 +6,7 @@ use mathlib.Core.Path.{_≡_, refl, sym, ap, _∙_}
 use mathlib.Core.Logic.{_≢_}
 use mathlib.Core.Bool.{Bool, true, false, cond}
 use mathlib.Core.List.{List, [], _∷_, _++_}
-use lib.ListN.{length, getD, take, drop, set, length-set, List·getD-append}
+use lib.ListN.{length, getD, take, drop, set, length-append, length-set, List·getD-append, List·getD-eq-default}
 use lib.Seq.{getD-set-other, drop-at}
 use lib.Dec.{T, leb}
 use Rattle.pages.specs.Lists.{Every}
@@ -57,35 +57,62 @@ down-other (suc k) p e ps q l n =
     fill-other p (renew es i s) (s .pages) q (omega (arith, down-grows k (getD es i noEntry .r) e ps)) (n .0)
     ∙ down-other k (getD es i noEntry .r) e ps q l (n .1)
 
-place-other : (t : Table) (n : ℕ) (r : Rect) (q : ℕ) → q < length (t .pages) → Every (λ x. q ≢ x) (path t r) → page (place t n r) q ≡ page t q
-unfolding place newRoot
-place-other t n r q l h = go (s .split)
-  where
-    s : Step
-    s = down (page t (t .root) .level) (t .root) (entryOf r n) (t .pages)
+module _ (t : Table) (n : ℕ) (r : Rect) where
+  abbrev s : Step
+  s = down (page t (t .root) .level) (t .root) (entryOf r n) (t .pages)
 
-    same : pageAt (s .pages) q ≡ page t q
-    same = down-other (page t (t .root) .level) (t .root) (entryOf r n) (t .pages) q l h
+  -- the table, by whether the root was split
+  abbrev made : Bool → Table
+  made b = cond b (tableOf (length (s .pages)) (suc (t .count)) (newRoot (t .root) (s .pages))) (tableOf (t .root) (suc (t .count)) (s .pages))
 
-    go : (b : Bool) → page (cond b (tableOf (length (s .pages)) (suc (t .count)) (newRoot (t .root) (s .pages))) (tableOf (t .root) (suc (t .count)) (s .pages))) q ≡ page t q
-    go true =
-        List·getD-append (s .pages) _ noPage q (omega (arith, down-grows (page t (t .root) .level) (t .root) (entryOf r n) (t .pages))) ∙ same
-    go false = same
+  grows : length (t .pages) ≤ length (s .pages)
+  grows = down-grows (page t (t .root) .level) (t .root) (entryOf r n) (t .pages)
+
+  place-other : (q : ℕ) → q < length (t .pages) → Every (λ x. q ≢ x) (path t r) → page (place t n r) q ≡ page t q
+  unfolding place newRoot
+  place-other q l h = go (s .split)
+    where
+      same : pageAt (s .pages) q ≡ page t q
+      same = down-other (page t (t .root) .level) (t .root) (entryOf r n) (t .pages) q l h
+
+      go : (b : Bool) → page (made b) q ≡ page t q
+      go true = List·getD-append (s .pages) _ noPage q (omega (arith, grows)) ∙ same
+      go false = same
+
+  place-grows : length (t .pages) ≤ length (place t n r .pages)
+  unfolding place newRoot
+  place-grows = go (s .split)
+    where
+      go : (b : Bool) → length (t .pages) ≤ length (made b .pages)
+      go true = simp length-append (omega (arith, grows))
+      go false = grows
+
+  -- from the new page count on there is no page, now or before
+  place-later : (q : ℕ) → length (place t n r .pages) ≤ q → page (place t n r) q ≡ page t q
+  place-later q l =
+      List·getD-eq-default (place t n r .pages) noPage {n = q} l
+      ∙ sym (List·getD-eq-default (t .pages) noPage {n = q} (le-trans place-grows l))
 
 module _ (w : List ℕ) (n : ℕ) (r : Rect) (wl : TABLE_WORDS ≤ length w) (h : T (sound w)) where
   placed-words : placedWords w n r ≡ tabled (place (tableIn w) n r .root) (place (tableIn w) n r .count) (place (tableIn w) n r .pages) (drop TABLE_WORDS w)
   unfolding placedWords tabled
   placed-words = refl
 
-  -- a page that is not on the path has its words as before
-  pub page-untouched : (q : ℕ) → q < length (tableIn w .pages) → Every (λ x. q ≢ x) (path (tableIn w) r) → pageWords (placedWords w n r) q ≡ pageWords w q
-  page-untouched q l out =
-      let below : q < PAGES = omega (arith, sound-in w h .most) in
+  same-words : (q : ℕ) → q < PAGES → page (place (tableIn w) n r) q ≡ page (tableIn w) q → pageWords (placedWords w n r) q ≡ pageWords w q
+  same-words q below same =
       ap (λ v. pageWords v q) placed-words
       ∙ (page-words (place (tableIn w) n r .root) (place (tableIn w) n r .count) (place (tableIn w) n r .pages) (drop TABLE_WORDS w) q below
-      ∙ (ap encodePage (place-other (tableIn w) n r q l out)
+      ∙ (ap encodePage same
       ∙ (sym (page-words (tableIn w .root) (tableIn w .count) (tableIn w .pages) (drop TABLE_WORDS w) q below)
       ∙ ap (λ v. pageWords v q) (sym (tabled-in w wl h)))))
+
+  -- a page that is not on the path has its words as before
+  pub page-untouched : (q : ℕ) → q < length (tableIn w .pages) → Every (λ x. q ≢ x) (path (tableIn w) r) → pageWords (placedWords w n r) q ≡ pageWords w q
+  page-untouched q l out = same-words q (omega (arith, sound-in w h .most)) (place-other (tableIn w) n r q l out)
+
+  -- and so has one from the new page count on
+  pub later-untouched : (q : ℕ) → length (place (tableIn w) n r .pages) ≤ q → q < PAGES → pageWords (placedWords w n r) q ≡ pageWords w q
+  later-untouched q l below = same-words q below (place-later (tableIn w) n r q l)
 
   -- and so have the words after the table
   pub rest-untouched : drop TABLE_WORDS (placedWords w n r) ≡ drop TABLE_WORDS w

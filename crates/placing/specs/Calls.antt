@@ -13,6 +13,7 @@ use Rattle.pages.specs.Sound.{stored, sound}
 use Rattle.placing.specs.Place.{place}
 
 -- "place 1, 6, 2, 3, 7": of a sound table, the last three
+-- 7 "number already standing, which for a call means that it is the r of one of the n entries of a leaf in the table it works on"
 unfoldable pub placeRefusal : List ℕ → ℕ → Rect → ℕ
 unfolding valid tableIn
 placeRefusal w n r =

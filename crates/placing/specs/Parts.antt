@@ -1,4 +1,4 @@
--- What the smallest parts of `place` are held to: a comparison of two entries to go to, and the order of nine by marked keys.
+-- What the smallest parts of `place` are held to: a comparison of two entries to go to, and the order of nine by keys with places.
 use Prim.Native.Nat.{ℕ, zero, suc, _+_, _*_}
 use mathlib.Core.Bool.{Bool, _&&_, _||_, cond}
 use mathlib.Core.List.{List, [], _∷_}
@@ -15,23 +15,26 @@ use Rattle.placing.specs.Place.{area, growth}
 abbrev pub bestOf : Rect → Rect → ℕ → Best
 bestOf new r i = record { growth = growth new r; area = area r; at = i }
 
--- a is to be taken before b
-abbrev pub less : Best → Best → Bool
-less a b = ltb (a .growth) (b .growth) || (eqb (a .growth) (b .growth) && ltb (a .area) (b .area))
+-- `before` of Place, on the numbers of two rectangles
+abbrev pub comesBefore : Best → Best → Bool
+comesBefore a b = ltb (a .growth) (b .growth) || (eqb (a .growth) (b .growth) && ltb (a .area) (b .area))
 
 abbrev pub better : Best → Best → Best
-better a b = cond (less a b) a b
+better a b = cond (comesBefore a b) a b
 
--- a key with the place of its entry behind it, and the two of a pair in their order
+-- the entries of a page that is split: one more than it has room for
 abbrev pub NINE : ℕ
-NINE = 9
+NINE = suc FANOUT
 
+-- more than there are places among them
 abbrev pub PLACES : ℕ
 PLACES = 16
 
-abbrev pub marked : ℕ → ℕ → ℕ
-marked key place = key * PLACES + place
+-- a key with the place of its entry behind it
+abbrev pub keyed : ℕ → ℕ → ℕ
+keyed key place = key * PLACES + place
 
+-- two such numbers in their order
 abbrev pub pairOf : ℕ → ℕ → Pair
 pairOf a b = cond (ltb a b) (record { low = a; high = b }) (record { low = b; high = a })
 
@@ -40,10 +43,10 @@ unfoldable pub inserted : ℕ → List ℕ → List ℕ
 inserted x [] = x ∷ []
 inserted x (y ∷ ys) = pairOf x y .low ∷ inserted (pairOf x y .high) ys
 
--- the marked keys of the places below n, inserted in turn
+-- the keys of the places below n, each with its place, inserted in turn
 unfoldable pub risingTo : (ℕ → ℕ) → ℕ → List ℕ
 risingTo key zero = []
-risingTo key (suc n) = inserted (marked (key n) n) (risingTo key n)
+risingTo key (suc n) = inserted (keyed (key n) n) (risingTo key n)
 
 -- a place of nine: a full page's entries, and e last
 abbrev pub nineAt : List ℕ → Entry → ℕ → Entry

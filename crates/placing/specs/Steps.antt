@@ -62,16 +62,16 @@ addTo t p e =
     (writtenOf (set (splitInto t p (getD t 0 0) e) 0 (getD t 0 0 + 1)) true)
     (writtenOf t false))
 
--- the bounds of page q, zeros where it is no page; the entry for it
+-- the bounds of page q, zeros where it is no page; the entry for it, on pages `entryFor`
 unfoldable pub boundsAt : List ℕ → ℕ → Rect
 boundsAt t q = cond (ltb q PAGES) (bounds (filledIn (pageWords t q))) (rectOf 0 0 0 0)
 
-abbrev pub entryAt : List ℕ → ℕ → Entry
-entryAt t q = entryOf (boundsAt t q) q
+abbrev pub entryForIn : List ℕ → ℕ → Entry
+entryForIn t q = entryOf (boundsAt t q) q
 
 -- in page p the entry at place i is set to the bounds of its child q
 unfoldable pub resetEntry : List ℕ → ℕ → ℕ → ℕ → List ℕ
-resetEntry t p i q = putPage t p (entrySet (pageWords t p) i (entryAt t q))
+resetEntry t p i q = putPage t p (entrySet (pageWords t p) i (entryForIn t q))
 
 -- in page p the entry at place i is widened by the new rectangle
 abbrev pub widenedBy : Rect → Entry → Entry
@@ -84,7 +84,7 @@ widenEntry t p i new = putPage t p (entrySet (pageWords t p) i (widenedBy new (e
 unfoldable pub settled : ℕ → ℕ → ℕ → Rect → Written → Written
 settled p i q new s =
     let t : List ℕ = resetEntry (s .words) p i q in
-    cond (s .split) (addTo t p (entryAt t (getD t 0 0 - 1))) (writtenOf (widenEntry (s .words) p i new) false)
+    cond (s .split) (addTo t p (entryForIn t (getD t 0 0 - 1))) (writtenOf (widenEntry (s .words) p i new) false)
 
 -- the place to go to in a page's words
 unfoldable pub chosenIn : List ℕ → Rect → ℕ
@@ -103,7 +103,7 @@ unfoldable pub rootMade : List ℕ → ℕ → ℕ → List ℕ
 rootMade t r level =
     let k : ℕ = getD t 0 0 in
     cond (ltb k PAGES)
-    (set (set (putPage t k (encodePage (pageOf level (entryAt t r ∷ entryAt t (k - 1) ∷ [])))) 0 (k + 1)) 1 k)
+    (set (set (putPage t k (encodePage (pageOf level (entryForIn t r ∷ entryForIn t (k - 1) ∷ [])))) 0 (k + 1)) 1 k)
     t
 
 -- the whole of an accepted call

@@ -6,7 +6,7 @@ ghost use Prim.Native.Nat.{_-_, _<_};
 ghost use lib.ListN.{length};
 ghost use Rattle.pages.specs.Sizes.{FANOUT, PAGE_WORDS};
 ghost use Rattle.placing.specs.Place.{area};
-ghost use Rattle.placing.specs.Parts.{bestOf, less, better};
+ghost use Rattle.placing.specs.Parts.{bestOf, comesBefore, better};
 ghost use Rattle.placing.specs.Steps.{chosenIn};
 
 pub fn span(a: u32, b: u32) -> u32
@@ -41,7 +41,7 @@ fn cost(r: Rect, new: Rect, at: usize) -> Best
 }
 
 fn comes_before(a: Best, b: Best) -> bool
-    ensures { λ r. ⌜ r ≡ less a b ⌝ }
+    ensures { λ r. ⌜ r ≡ comesBefore a b ⌝ }
 {
     if a.growth == b.growth {
         return a.area < b.area;

@@ -38,10 +38,13 @@ ghost use Rattle.pages.specs.Layout.{pageWords, tableIn};
 ghost use Rattle.pages.specs.Sound.{stored, sound};
 ghost use Rattle.pages.specs.Readers.{entryIn};
 ghost use Rattle.placing.specs.Calls.{placedWords, placeSound, placeCall};
-ghost use Rattle.placing.specs.Steps.{splitInto, addTo, boundsAt, entryAt, resetEntry, widenEntry, settled, writtenOf, placeAt, rootMade};
+ghost use Rattle.placing.specs.Steps.{splitInto, addTo, boundsAt, entryForIn, resetEntry, widenEntry, settled, writtenOf, placeAt, rootMade};
 
 // How many of nine entries stay in a page that is split.
 const STAY: usize = 4;
+
+// A new root has two entries: the old root's, and that of the page split off it.
+const ROOT_ENTRIES: usize = 2;
 
 // Four of the nine stay in page p, and five go to page k.
 fn split_page(table: &mut [u32], p: u32, k: u32, e: Entry)
@@ -86,24 +89,21 @@ fn bounds_at(table: &[u32], q: u32) -> Rect
     requires { ⌜ TABLE_WORDS ≤ length (now table) ⌝ }
     ensures { λ r. ⌜ r ≡ boundsAt (now (table .entry)) q ⌝ }
 {
-    if (q as usize) < PAGES {
-        let page = pages::page_of(table, q as usize);
-        let n = entry_count(page);
-        if n > 0 {
-            return pages::bounds_of(page, n);
-        }
+    if q as usize >= PAGES {
+        return pages::no_rect();
     }
-    Rect {
-        x1: 0,
-        y1: 0,
-        x2: 0,
-        y2: 0,
+    let page = pages::page_of(table, q as usize);
+    let n = entry_count(page);
+    if n == 0 {
+        return pages::no_rect();
     }
+    pages::bounds_of(page, n)
 }
 
-fn entry_at(table: &[u32], q: u32) -> Entry
+// The entry for page q: its bounds.
+fn entry_for(table: &[u32], q: u32) -> Entry
     requires { ⌜ TABLE_WORDS ≤ length (now table) ⌝ }
-    ensures { λ r. ⌜ r ≡ entryAt (now (table .entry)) q ⌝ }
+    ensures { λ r. ⌜ r ≡ entryForIn (now (table .entry)) q ⌝ }
 {
     Entry {
         rect: bounds_at(table, q),
@@ -116,16 +116,16 @@ fn reset_entry(table: &mut [u32], p: u32, i: usize, q: u32)
     requires { ⌜ (TABLE_WORDS ≤ length (now table)) × (p < PAGES) × (i < FANOUT) ⌝ }
     ensures { λ _. ⌜ now (table .exit) ≡ resetEntry (now (table .entry)) p i q ⌝ }
 {
-    let e = entry_at(table, q);
+    let e = entry_for(table, q);
     put_entry(table, p, i, e);
 }
 
 // The entry for the page that was made last.
 fn entry_last(table: &[u32]) -> Entry
     requires { ⌜ TABLE_WORDS ≤ length (now table) ⌝ }
-    ensures { λ r. ⌜ r ≡ entryAt (now (table .entry)) (getD (now (table .entry)) 0 0 - 1) ⌝ }
+    ensures { λ r. ⌜ r ≡ entryForIn (now (table .entry)) (getD (now (table .entry)) 0 0 - 1) ⌝ }
 {
-    entry_at(table, span(1, table[PAGE_COUNT]))
+    entry_for(table, span(1, table[PAGE_COUNT]))
 }
 
 // Widens the entry at place i of page p by the new rectangle.
@@ -186,9 +186,9 @@ fn make_root(table: &mut [u32], root: u32, level: u32)
     if k as usize >= PAGES {
         return;
     }
-    let mut es = [entry_at(table, root); NINE];
+    let mut es = [entry_for(table, root); NINE];
     es[1] = entry_last(table);
-    put_page(table, k, level, es, 0, 2);
+    put_page(table, k, level, es, 0, ROOT_ENTRIES);
     table[PAGE_COUNT] = k + 1;
     table[ROOT] = k;
 }

@@ -1,5 +1,6 @@
 // Whether a piece number stands in the table.
 use super::words::entry_count;
+use pages::ENTRY_R;
 use pages::ENTRY_WORDS;
 use pages::FANOUT;
 use pages::LEVEL;
@@ -15,16 +16,13 @@ ghost use Rattle.pages.specs.Sound.{is};
 ghost use Rattle.pages.specs.Readers.{entriesIn};
 ghost use Rattle.placing.specs.Steps.{heldIn, heldBelow};
 
-// The place of r among an entry's words.
-const REF: usize = 4;
-
 // Whether one of the first n entries of a page's words has the r `number`.
 fn has_ref(page: &[u32], n: usize, number: u32) -> bool
     requires { ⌜ (length (now page) ≡ PAGE_WORDS) × (n ≤ FANOUT) ⌝ }
     ensures { λ r. ⌜ r ≡ ltb 0 (sum (is number) (entriesIn (now (page .entry)) n)) ⌝ }
 {
     for i in 0..n {
-        if page[PAGE_HEAD + ENTRY_WORDS * i + REF] == number {
+        if page[PAGE_HEAD + ENTRY_WORDS * i + ENTRY_R] == number {
             return true;
         }
     }

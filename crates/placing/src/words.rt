@@ -1,13 +1,13 @@
 // A page written: one entry, all of them, and the page in the middle of the table.
 use super::order::NINE;
 use pages::COUNT;
+use pages::ENTRY_R;
 use pages::ENTRY_WORDS;
 use pages::Entry;
 use pages::FANOUT;
 use pages::LEVEL;
 use pages::PAGE_HEAD;
 use pages::PAGE_WORDS;
-use pages::Rect;
 use pages::TABLE_HEAD;
 ghost use mathlib.Core.Path.{_≡_};
 ghost use Prim.Native.Nat.{_+_, _≤_, _<_};
@@ -35,7 +35,7 @@ fn write_entry(page: &mut [u32], i: usize, e: Entry)
     page[at + 1] = e.rect.y1;
     page[at + 2] = e.rect.x2;
     page[at + 3] = e.rect.y2;
-    page[at + 4] = e.r;
+    page[at + ENTRY_R] = e.r;
 }
 
 fn append_entry(page: &mut [u32], e: Entry)
@@ -56,12 +56,7 @@ fn entry_or_blank(es: [Entry; NINE], from: usize, n: usize, i: usize) -> Entry
         return es[from + i];
     }
     Entry {
-        rect: Rect {
-            x1: 0,
-            y1: 0,
-            x2: 0,
-            y2: 0,
-        },
+        rect: pages::no_rect(),
         r: 0,
     }
 }

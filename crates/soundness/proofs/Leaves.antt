@@ -14,7 +14,7 @@ use Rattle.pages.specs.Readers.{entryIn, entriesIn}
 use Rattle.pages.specs.Sound.{is}
 use Rattle.pages.proofs.Lists.{not-both}
 use Rattle.pages.proofs.Bounds.{length-entries}
-use Rattle.soundness.specs.Steps.{Adds, Piece, Tested, Leafed}
+use Rattle.soundness.specs.Steps.{Adds, Piece, Tested, LeafTested}
 use Rattle.soundness.proofs.Marks.{adds-none, adds-more, room-left}
 use Rattle.soundness.proofs.Entries.{every-more, sum-more, every-entry, sum-entry, widen-more, widen-done}
 
@@ -38,7 +38,7 @@ module _ (w g₀ : List ℕ) (b₀ : Rect) where
       widen-more w i b b₀ b′ e (t .2) q v,
     )
 
-    pub taken-not : (n : ℕ) → i < n → r ≡ false → Leafed (entriesIn w n) g₀ (record { good = false; bounds = b }) g′
+    pub taken-not : (n : ℕ) → i < n → r ≡ false → LeafTested (entriesIn w n) g₀ (record { good = false; bounds = b }) g′
     taken-not n l u = record {
       tested = record {
         yes = λ z. absurd (not-both false z refl);
@@ -48,8 +48,8 @@ module _ (w g₀ : List ℕ) (b₀ : Rect) where
       exact = λ z. absurd (not-both false z refl);
     }
 
-  pub taken-all : (i n : ℕ) (g : List ℕ) (b : Rect) → i ≤ n → n ≤ i → Taken i g b → b₀ ≡ entryIn w 0 .rect → Leafed (entriesIn w n) g₀ (record { good = true; bounds = b }) g
-  taken-all i n g b x y t z = subst (λ m. Leafed (entriesIn w m) g₀ (record { good = true; bounds = b }) g) (le-antisymm x y) (record {
+  pub taken-all : (i n : ℕ) (g : List ℕ) (b : Rect) → i ≤ n → n ≤ i → Taken i g b → b₀ ≡ entryIn w 0 .rect → LeafTested (entriesIn w n) g₀ (record { good = true; bounds = b }) g
+  taken-all i n g b x y t z = subst (λ m. LeafTested (entriesIn w m) g₀ (record { good = true; bounds = b }) g) (le-antisymm x y) (record {
     tested = record { yes = λ _. (t .0, t .1); no = λ u _ _. absurd (not-both true refl u) };
     exact = λ _ l. t .2 ∙ (ap (λ r. widenAll r (entriesIn w i)) z ∙ widen-done w i (omega (arith, length-entries w i)));
   })

@@ -20,7 +20,7 @@ use Rattle.pages.proofs.Lists.{not-both, true-T, T-true, false-T, both}
 use Rattle.pages.proofs.Facts.{same-rect, rect-same}
 use Rattle.pages.proofs.Bounds.{length-entries}
 use Rattle.soundness.specs.declared.Visit.{Visit}
-use Rattle.soundness.specs.Steps.{Adds, Room, visits, stores, Head, Tree, Tested, Leafed, Visited, withChild}
+use Rattle.soundness.specs.Steps.{Adds, Room, visits, stores, Head, Tree, Tested, LeafTested, Visited, withChild}
 use Rattle.soundness.proofs.Marks.{adds-none, adds-more, room-left}
 use Rattle.soundness.proofs.Entries.{every-more, sum-more, every-entry, sum-entry, widen-more, widen-done}
 
@@ -122,7 +122,7 @@ module _ (w : List ℕ) (l m p : ℕ) (h h₁ g : List ℕ) where
   }
 
 module _ (w : List ℕ) (m p : ℕ) (h h₁ g pg : List ℕ) (n : ℕ) (ent : page (tableIn w) p .entries ≡ entriesIn pg n) (r : Bool) (ok : r ≡ true) where
-  leaf-at : (v : Visit) (g′ : List ℕ) → Tested PAGES (Head w 0 m p) (λ q. one (eqb p q)) h r h₁ → Leafed (page (tableIn w) p .entries) g v g′ → Visited w 0 m p h g v h₁ g′
+  leaf-at : (v : Visit) (g′ : List ℕ) → Tested PAGES (Head w 0 m p) (λ q. one (eqb p q)) h r h₁ → LeafTested (page (tableIn w) p .entries) g v g′ → Visited w 0 m p h g v h₁ g′
   unfolding Tree seen under
   leaf-at v g′ x f = record {
     yes = λ u. ((x .yes ok .0, f .tested .yes u .0), x .yes ok .1, f .tested .yes u .1);
@@ -130,9 +130,9 @@ module _ (w : List ℕ) (m p : ℕ) (h h₁ g pg : List ℕ) (n : ℕ) (ent : pa
     exact = f .exact;
   }
 
-  pub walk-leaf : (l : ℕ) (v : Visit) (g′ : List ℕ) → l ≡ 0 → Tested PAGES (Head w l m p) (λ q. one (eqb p q)) h r h₁ → Leafed (entriesIn pg n) g v g′ → Visited w l m p h g v h₁ g′
+  pub walk-leaf : (l : ℕ) (v : Visit) (g′ : List ℕ) → l ≡ 0 → Tested PAGES (Head w l m p) (λ q. one (eqb p q)) h r h₁ → LeafTested (entriesIn pg n) g v g′ → Visited w l m p h g v h₁ g′
   walk-leaf l v g′ z x f = subst (λ d. Tested PAGES (Head w d m p) (λ q. one (eqb p q)) h r h₁ → Visited w d m p h g v h₁ g′) (sym z)
-      (λ y. leaf-at v g′ y (subst (λ es. Leafed es g v g′) (sym ent) f)) x
+      (λ y. leaf-at v g′ y (subst (λ es. LeafTested es g v g′) (sym ent) f)) x
 
   module _ (l : ℕ) (b₀ : Rect) (x : Tested PAGES (Head w (suc l) m p) (λ q. one (eqb p q)) h r h₁) where
     -- all entries are good

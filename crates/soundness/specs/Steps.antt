@@ -57,7 +57,7 @@ pub record Tested (n : ℕ) (P : Type 0) (f : ℕ → ℕ) (h : List ℕ) (r : B
   pub no : r ≡ false → P → Room n h f → ⊥
 
 -- of a leaf's entries
-pub record Leafed (es : List Entry) (g : List ℕ) (r : Visit) (g′ : List ℕ) : Type 0 where
+pub record LeafTested (es : List Entry) (g : List ℕ) (r : Visit) (g′ : List ℕ) : Type 0 where
   pub tested : Tested PIECES (Every Piece es) (λ c. sum (is c) es) g (r .good) g′
   pub exact : r .good ≡ true → 1 ≤ length es → r .bounds ≡ bounds es
 

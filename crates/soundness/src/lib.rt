@@ -17,7 +17,7 @@ ghost use Rattle.pages.specs.Layout.{tableIn};
 ghost use Rattle.pages.specs.Readers.{entriesIn};
 ghost use Rattle.pages.specs.Sound.{is, zeros, sound};
 ghost use Rattle.soundness.specs.Calls.{checkCall};
-ghost use Rattle.soundness.specs.Steps.{totalOf, Piece, Head, Tested, Leafed, Visited, withChild, rootFewest, Rooted};
+ghost use Rattle.soundness.specs.Steps.{totalOf, Piece, Head, Tested, LeafTested, Visited, withChild, rootFewest, Rooted};
 
 // How many piece numbers there are, as a length.
 const NUMBERS: usize = pages::PIECES as usize;
@@ -144,7 +144,7 @@ fn take_piece(e: pages::Entry, numbers: &mut [u8; NUMBERS]) -> bool
 // The tests of a leaf's entries, and their bounds.
 fn leaf(page: &[u32], n: usize, numbers: &mut [u8; NUMBERS]) -> Visit
     requires { ⌜ (length (now page) ≡ PAGE_WORDS) × (n ≤ FANOUT) ⌝ }
-    ensures { λ r. ⌜ Leafed (entriesIn (now (page .entry)) n) (now (numbers .entry)) r (now (numbers .exit)) ⌝ }
+    ensures { λ r. ⌜ LeafTested (entriesIn (now (page .entry)) n) (now (numbers .entry)) r (now (numbers .exit)) ⌝ }
 {
     let mut bounds = pages::entry_of(page, 0).rect;
     for i in 0..n {
@@ -187,15 +187,9 @@ fn joined(before: Visit, child: Visit, rect: pages::Rect) -> Visit
 fn not_good() -> Visit
     ensures { λ r. ⌜ r .good ≡ false ⌝ }
 {
-    let none = pages::Rect {
-        x1: 0,
-        y1: 0,
-        x2: 0,
-        y2: 0,
-    };
     Visit {
         good: false,
-        bounds: none,
+        bounds: pages::no_rect(),
     }
 }
 

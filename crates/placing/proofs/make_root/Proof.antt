@@ -15,8 +15,8 @@ cast-if1 c = omega (arith, c .slice-known2 .given 0)
 returns : tie.Need-returns
 returns c = root-out _ _ _ (c .if1 .taken)
 
-entry-at-requires : tie.Need-entry-at-requires
-entry-at-requires c κs = search needs
+entry-for-requires : tie.Need-entry-for-requires
+entry-for-requires c κs = search needs
 
 entry-last-requires : tie.Need-entry-last-requires
 entry-last-requires c κs = search needs
@@ -40,7 +40,7 @@ same-length : tie.Need-same-length
 same-length c = search needs
 
 returns-2 : tie.Need-returns-2
-returns-2 c = root-made _ _ _ _ _ _ (c .before .before .before .before .before .before .before .before .if1 .left) (c .before .before .before .before .before .before .entry-at .ensures) (c .before .before .before .before .entry-last .ensures) (c .before .before .put-page .ensures)
+returns-2 c = root-made _ _ _ _ _ _ (c .before .before .before .before .before .before .before .before .if1 .left) (c .before .before .before .before .before .before .entry-for .ensures) (c .before .before .before .before .entry-last .ensures) (c .before .before .put-page .ensures)
 
 pub make-root-spec : {M : Type 1} → statement M
 make-root-spec =
@@ -49,7 +49,7 @@ make-root-spec =
     slice-read-k
     cast-if1
     returns
-    entry-at-requires
+    entry-for-requires
     entry-last-requires
     array-set-from-es
     put-page-requires
