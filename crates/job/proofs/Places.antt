@@ -86,3 +86,10 @@ module _ (b : List ℕ) where
           → T t × (s .pieces ≡ pieceCount b) × (s .queries ≡ queryCount b) × (s .start ≡ queryStart b 0)
       go true h = (tt, ap (λ x. x .pieces) h, ap (λ x. x .queries) h, ap (λ x. x .start) h)
       go false h = let z : true ≡ false = sym g ∙ ap (λ x. x .good) h in let y : _≡_ {A = ℕ} 0 1 = cc in absurd (omega arith)
+
+  pub shape-bad : (s : Shape) → s ≡ shapeOf b → s .good ≡ false → wellFormed b ≡ false
+  shape-bad s e g = go (wellFormed b) (e ∙ shape-tests)
+    where
+      go : (t : Bool) → s ≡ cond t (record { good = true; pieces = pieceCount b; queries = queryCount b; start = queryStart b 0 }) noShape → t ≡ false
+      go true h = sym (ap (λ x. x .good) h) ∙ g
+      go false h = refl

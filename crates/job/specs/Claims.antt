@@ -25,5 +25,5 @@ pub record Claims : Type 0 where
   pub written : (j : Job) → Words (jobWords j) → length (jobBytes j) ≤ JOB_BYTES → T (wellFormed (jobBytes j)) × (jobIn (jobBytes j) ≡ j)
   -- the lines that `place_piece` and `answer_query` give, in order, are the output of a well-formed job
   pub inOrder : (b : List ℕ) → T (wellFormed b) → output b ≡ linesTo (pieceLineAt b) (pieceCount b) ++ linesTo (queryLineAt b) (queryCount b)
-  -- what `bad_job` gives is the output of any other bytes
+  -- what `bad_job` writes is the output of any other bytes
   pub bad : (b : List ℕ) → wellFormed b ≡ false → output b ≡ badJob

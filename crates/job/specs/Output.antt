@@ -12,7 +12,7 @@ use Rattle.query.specs.declared.Answer.{Answer}
 use Rattle.query.specs.Calls.{queryCall}
 use Rattle.history.specs.Book.{Call}
 use Rattle.history.specs.History.{placed}
-use Rattle.job.specs.Lines.{UNPLACED, ANSWERED, REFUSED, line}
+use Rattle.job.specs.Lines.{SPACE, NEWLINE, UNPLACED, ANSWERED, REFUSED, line}
 use Rattle.job.specs.Job.{Query, Job}
 
 -- "A refused piece prints "P", its position from 0 and the refusal"
@@ -56,4 +56,4 @@ jobLines j = pieceLines 0 emptyWords (j .pieces) ++ queryLines 0 (placed emptyWo
 
 -- "bad job", and a newline
 unfoldable pub badJob : List ℕ
-badJob = 98 ∷ 97 ∷ 100 ∷ 32 ∷ 106 ∷ 111 ∷ 98 ∷ 10 ∷ []
+badJob = 98 ∷ 97 ∷ 100 ∷ SPACE ∷ 106 ∷ 111 ∷ 98 ∷ NEWLINE ∷ []

@@ -16,10 +16,6 @@ BYTE_VALUES = 256
 abbrev pub WORD_VALUES : ℕ
 WORD_VALUES = 4_294_967_296
 
--- "Pieces: number, x1, y1, x2, y2"
-abbrev pub PIECE_WORDS : ℕ
-PIECE_WORDS = 5
-
 -- "Queries: x1, y1, x2, y2, clause count, then each clause as low word, high word"
 abbrev pub QUERY_HEAD : ℕ
 QUERY_HEAD = 5

@@ -2,10 +2,12 @@
 mod lines;
 mod words;
 
+use history::CALL_WORDS;
 use lines::answered_line;
 use lines::refused_line;
 use pages::ACCEPTED;
 use query::Answer;
+use relations::CLAUSES;
 use words::read_clauses;
 use words::rect_at;
 use words::word_at;
@@ -32,8 +34,6 @@ const BYTE_VALUES: u32 = 256;
 
 const WORD_VALUES: u64 = 4_294_967_296;
 
-const PIECE_WORDS: usize = 5;
-
 // The words of a query before its clauses, and the place of the clause count among them.
 const QUERY_HEAD: usize = 5;
 
@@ -42,9 +42,9 @@ const CLAUSE_COUNT_AT: usize = 4;
 const CLAUSE_WORDS: usize = 2;
 
 // One clause more than a query may have: enough of them to be refused.
-const CLAUSES_READ: usize = 9;
+const CLAUSES_READ: usize = CLAUSES + 1;
 
-pub const BAD_JOB_BYTES: usize = 8;
+const BAD_JOB_BYTES: usize = 8;
 
 // No line is longer.
 pub const LINE_BYTES: usize = 8_192;
@@ -81,7 +81,7 @@ fn bad_shape() -> Shape
     }
 }
 
-// The job is bounded, so no count can make a place wrap before a query is found to run past the end.
+// Whether the queries end where the bytes do. A query that runs past the end is found before its count is read, so no place wraps.
 fn ends_there(bytes: &[u8], start: usize, queries: usize) -> bool
     requires { ⌜ (length (now bytes) ≤ JOB_BYTES) × (start ≡ queryStart (now bytes) 0) × (WORD_BYTES * start ≤ length (now bytes)) ⌝ }
     ensures { λ r. ⌜ r ≡ eqb (length (now (bytes .entry))) (WORD_BYTES * queryStart (now (bytes .entry)) queries) ⌝ }
@@ -107,7 +107,7 @@ pub fn shape_of(bytes: &[u8]) -> Shape
         return bad_shape();
     }
     let pieces = word_at(bytes, 0) as usize;
-    let count = 1 + PIECE_WORDS * pieces;
+    let count = 1 + CALL_WORDS * pieces;
     if bytes.len() < WORD_BYTES * (count + 1) {
         return bad_shape();
     }
@@ -123,11 +123,16 @@ pub fn shape_of(bytes: &[u8]) -> Shape
     bad_shape()
 }
 
-// All that a bad job prints.
-pub fn bad_job() -> [u8; BAD_JOB_BYTES]
-    ensures { λ r. ⌜ r ≡ badJob ⌝ }
+// Writes all that a bad job prints, and gives its length.
+pub fn bad_job(out: &mut [u8]) -> usize
+    requires { ⌜ LINE_BYTES ≤ length (now out) ⌝ }
+    ensures { λ r. ⌜ (r ≤ LINE_BYTES) × (take r (now (out .exit)) ≡ badJob) ⌝ }
 {
-    [b'b', b'a', b'd', SPACE, b'j', b'o', b'b', NEWLINE]
+    let line = [b'b', b'a', b'd', SPACE, b'j', b'o', b'b', NEWLINE];
+    for i in 0..BAD_JOB_BYTES {
+        out[i] = line[i];
+    }
+    BAD_JOB_BYTES
 }
 
 // Makes the table empty, before the first piece.
@@ -143,7 +148,7 @@ pub fn place_piece(job: &[u8], i: usize, table: &mut [u32], out: &mut [u8]) -> u
     requires { ⌜ T (wellFormed (now job)) × (i < pieceCount (now job)) × (now table ≡ tableAt (now job) i) × (LINE_BYTES ≤ length (now out)) ⌝ }
     ensures { λ r. ⌜ (r ≤ LINE_BYTES) × (take r (now (out .exit)) ≡ pieceLineAt (now (job .entry)) i) × (now (table .exit) ≡ tableAt (now (job .entry)) (i + 1)) ⌝ }
 {
-    let at = 1 + PIECE_WORDS * i;
+    let at = 1 + CALL_WORDS * i;
     let number = word_at(job, at);
     let rect = rect_at(job, at + 1);
     let refusal = placing::place_sound(table, number, rect);

@@ -10,7 +10,7 @@ ghost use lib.ListN.{length};
 ghost use Rattle.job.specs.Sizes.{WORD_BYTES, BYTE_VALUES, CLAUSE_WORDS};
 ghost use Rattle.job.specs.Words.{wordAt, rectAt, clauseAt, clausesAt};
 
-fn wide(b: u8) -> u32
+fn to_word(b: u8) -> u32
     ensures { λ r. ⌜ (r ≡ b) × (r < BYTE_VALUES) ⌝ }
 {
     b as u32
@@ -21,10 +21,10 @@ pub(crate) fn word_at(bytes: &[u8], i: usize) -> u32
     ensures { λ r. ⌜ r ≡ wordAt (now (bytes .entry)) i ⌝ }
 {
     let at = WORD_BYTES * i;
-    wide(bytes[at])
+    to_word(bytes[at])
         + BYTE_VALUES
-            * (wide(bytes[at + 1])
-                + BYTE_VALUES * (wide(bytes[at + 2]) + BYTE_VALUES * wide(bytes[at + 3])))
+            * (to_word(bytes[at + 1])
+                + BYTE_VALUES * (to_word(bytes[at + 2]) + BYTE_VALUES * to_word(bytes[at + 3])))
 }
 
 pub(crate) fn rect_at(bytes: &[u8], i: usize) -> Rect

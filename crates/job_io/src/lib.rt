@@ -6,13 +6,14 @@ use pages::TABLE_WORDS;
 ghost use mathlib.Core.Path.{_≡_};
 ghost use mathlib.Core.Bool.{true};
 ghost use Prim.Native.Nat.{_+_, _≤_};
-ghost use lib.ListN.{length};
+ghost use lib.ListN.{length, take};
 ghost use lib.Dec.{T};
 ghost use Rattle.pages.specs.Sizes.{TABLE_WORDS, PIECES};
 ghost use Rattle.pages.specs.Calls.{emptyWords};
 ghost use Rattle.job.specs.Sizes.{LINE_BYTES};
-ghost use Rattle.job.specs.Words.{pieceCount, queryCount, queryStart, wellFormed};
+ghost use Rattle.job.specs.Words.{pieceCount, queryCount, queryStart, wellFormed, output};
 ghost use Rattle.job.specs.Steps.{tableAt};
+ghost use Rattle.job_io.specs.Gathered.{kept, heldPieces, heldQueries, heldAtEnd, Gathered};
 
 // Lines are gathered here, so that a write has many of them.
 const BUFFER_BYTES: usize = 65_536;
@@ -56,7 +57,7 @@ fn read_all(from: i32, bytes: &mut [u8]) -> usize
 // Writes what is gathered where the next line might not fit behind it.
 fn make_room(to: i32, out: &[u8], used: usize) -> Written
     requires { ⌜ (used ≤ length (now out)) × (LINE_BYTES ≤ length (now out)) ⌝ }
-    ensures { λ r. ⌜ r .used + LINE_BYTES ≤ length (now (out .entry)) ⌝ }
+    ensures { λ r. ⌜ (r .used + LINE_BYTES ≤ length (now (out .entry))) × (take (r .used) (now (out .entry)) ≡ kept (length (now (out .entry))) (take used (now (out .entry)))) ⌝ }
 {
     if used <= out.len() - LINE_BYTES {
         return Written { good: true, used };
@@ -67,7 +68,7 @@ fn make_room(to: i32, out: &[u8], used: usize) -> Written
 
 fn place_pieces(to: i32, bytes: &[u8], pieces: usize, table: &mut [u32], out: &mut [u8]) -> Written
     requires { ⌜ T (wellFormed (now bytes)) × (pieces ≡ pieceCount (now bytes)) × (now table ≡ emptyWords) × (LINE_BYTES ≤ length (now out)) ⌝ }
-    ensures { λ r. ⌜ (r .used ≤ length (now (out .entry))) × (r .good ≡ true → now (table .exit) ≡ tableAt (now (bytes .entry)) (pieceCount (now (bytes .entry)))) ⌝ }
+    ensures { λ r. ⌜ (r .used ≤ length (now (out .entry))) × (r .good ≡ true → (now (table .exit) ≡ tableAt (now (bytes .entry)) (pieceCount (now (bytes .entry)))) × (take (r .used) (now (out .exit)) ≡ heldPieces (length (now (out .entry))) (now (bytes .entry)))) ⌝ }
 {
     let mut used: usize = 0;
     for i in 0..pieces {
@@ -91,8 +92,8 @@ fn answer_queries(
     out: &mut [u8],
     gathered: usize,
 ) -> Written
-    requires { ⌜ T (wellFormed (now bytes)) × (queries ≡ queryCount (now bytes)) × (start ≡ queryStart (now bytes) 0) × (now table ≡ tableAt (now bytes) (pieceCount (now bytes))) × (length (now answer) ≡ PIECES) × (LINE_BYTES ≤ length (now out)) × (gathered ≤ length (now out)) ⌝ }
-    ensures { λ r. ⌜ r .used ≤ length (now (out .entry)) ⌝ }
+    requires { ⌜ T (wellFormed (now bytes)) × (queries ≡ queryCount (now bytes)) × (start ≡ queryStart (now bytes) 0) × (now table ≡ tableAt (now bytes) (pieceCount (now bytes))) × (length (now answer) ≡ PIECES) × (LINE_BYTES ≤ length (now out)) × (gathered ≤ length (now out)) × (take gathered (now out) ≡ heldPieces (length (now out)) (now bytes)) ⌝ }
+    ensures { λ r. ⌜ (r .used ≤ length (now (out .entry))) × (r .good ≡ true → take (r .used) (now (out .exit)) ≡ heldQueries (length (now (out .entry))) (now (bytes .entry))) ⌝ }
 {
     let mut used = gathered;
     let mut at = start;
@@ -109,22 +110,30 @@ fn answer_queries(
     Written { good: true, used }
 }
 
-// Nothing is written before the job is known to be well formed.
-fn answer_job(to: i32, bytes: &[u8], table: &mut [u32], answer: &mut [u16], out: &mut [u8])
+// Puts the lines of a job in the buffer, one behind the other. What it holds at the end is still to be written.
+fn answer_job(
+    to: i32,
+    bytes: &[u8],
+    table: &mut [u32],
+    answer: &mut [u16],
+    out: &mut [u8],
+) -> Written
     requires { ⌜ (length (now table) ≡ TABLE_WORDS) × (length (now answer) ≡ PIECES) × (LINE_BYTES ≤ length (now out)) ⌝ }
+    ensures { λ r. ⌜ (r .used ≤ length (now (out .entry))) × (r .good ≡ true → (take (r .used) (now (out .exit)) ≡ heldAtEnd (length (now (out .entry))) (now (bytes .entry))) × Gathered (output (now (bytes .entry))) (take (r .used) (now (out .exit)))) ⌝ }
 {
     let shape = job::shape_of(bytes);
     if !shape.good {
-        let line = job::bad_job();
-        io::write_all(to, &line);
-        return;
+        return Written {
+            good: true,
+            used: job::bad_job(out),
+        };
     }
     job::start(table);
     let placed = place_pieces(to, bytes, shape.pieces, table, out);
     if !placed.good {
-        return;
+        return placed;
     }
-    let written = answer_queries(
+    answer_queries(
         to,
         bytes,
         shape.queries,
@@ -133,11 +142,7 @@ fn answer_job(to: i32, bytes: &[u8], table: &mut [u32], answer: &mut [u16], out:
         answer,
         out,
         placed.used,
-    );
-    if written.good {
-        let used = written.used;
-        io::write_all(to, &out[..used]);
-    }
+    )
 }
 
 // Reads a job from one descriptor to its end, and writes what it prints to another.
@@ -147,5 +152,9 @@ pub fn run(from: i32, to: i32) {
     let mut answer = [0u16; ANSWER_WORDS];
     let mut out = [0u8; BUFFER_BYTES];
     let n = read_all(from, &mut bytes);
-    answer_job(to, &bytes[..n], &mut table, &mut answer, &mut out);
+    let written = answer_job(to, &bytes[..n], &mut table, &mut answer, &mut out);
+    if written.good {
+        let used = written.used;
+        io::write_all(to, &out[..used]);
+    }
 }

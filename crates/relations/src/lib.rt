@@ -14,7 +14,7 @@ pub const CODES: usize = 13;
 
 const RELATIONS: usize = 40;
 
-const CLAUSES: usize = 8;
+pub const CLAUSES: usize = 8;
 
 // Refusals of document 01.
 pub const CLAUSE_COUNT: u32 = 4;

@@ -1,18 +1,22 @@
--- The clauses that are read are all, or nine where there are more, which is as good.
+-- The clauses that are read are all, or one too many where there are more, which is as good.
 use borrow.Author.Needs.{needs}
 use Prim.Native.Nat.{ℕ, _+_, _*_, _≤_, min}
 use mathlib.Core.Path.{_≡_, _∙_, sym, ap, subst}
 use native.Mathlib.Omega.{arith}
 use lib.ListN.{length, take, drop, replicate}
 use lib.Seq.{length-take-le}
+use Rattle.relations.specs.Query.{CLAUSES}
 use Rattle.job.specs.Sizes.{WORD_BYTES, QUERY_HEAD, CLAUSE_WORDS}
 use Rattle.job.specs.Words.{clausesAt}
 use Rattle.job.proofs.Asking.{prefix-fits, prefix-length, asked-all}
 use Rattle.job.proofs.ask.Statement.{statement}
 use Rattle.job.proofs.ask.Tie as tie
 
-cut : (n : ℕ) → n ≤ 9 → n ≡ length (take n (replicate {A = ℕ} 9 0))
-cut n h = sym (length-take-le n (replicate 9 0) h)
+abbrev TOO_MANY : ℕ
+TOO_MANY = CLAUSES + 1
+
+cut : (n : ℕ) → n ≤ TOO_MANY → n ≡ length (take n (replicate {A = ℕ} TOO_MANY 0))
+cut n h = sym (length-take-le n (replicate TOO_MANY 0) h)
 
 add-word-at : tie.Need-add-word-at
 add-word-at c = search needs
@@ -43,10 +47,10 @@ rect-at-requires : tie.Need-rect-at-requires
 rect-at-requires c κs = search needs
 
 array-share-prefix-clauses : tie.Need-array-share-prefix-clauses
-array-share-prefix-clauses c = let n = c .before .before .before .before .least .result in prefix-fits n (c .before .before .read-clauses .last .1 .1 .0) (drop n (replicate 9 0)) (cut n (omega arith) ∙ sym (c .before .before .read-clauses .kept .1 .1 .0))
+array-share-prefix-clauses c = let n = c .before .before .before .before .least .result in prefix-fits n (c .before .before .read-clauses .last .1 .1 .0) (drop n (replicate TOO_MANY 0)) (cut n (omega arith) ∙ sym (c .before .before .read-clauses .kept .1 .1 .0))
 
 slice-aggregate-query-sound : tie.Need-slice-aggregate-query-sound
-slice-aggregate-query-sound c = let n = c .before .before .before .before .before .least .result in prefix-length n (c .before .before .before .read-clauses .last .1 .1 .0) (drop n (replicate 9 0)) (cut n (omega arith) ∙ sym (c .before .before .before .read-clauses .kept .1 .1 .0))
+slice-aggregate-query-sound c = let n = c .before .before .before .before .before .least .result in prefix-length n (c .before .before .before .read-clauses .last .1 .1 .0) (drop n (replicate TOO_MANY 0)) (cut n (omega arith) ∙ sym (c .before .before .before .read-clauses .kept .1 .1 .0))
 
 query-sound-requires : tie.Need-query-sound-requires
 query-sound-requires c κs = (c .before .before .before .before .before .before .before .before .before .before .before .pre .1, c .before .before .before .before .before .before .before .before .before .before .before .pre .2)
@@ -56,7 +60,7 @@ same-length c = search needs
 
 returns : tie.Need-returns
 returns c = let at = c .before .before .before .before .before .before .before .before .before .before .before .before .before .before .args in let n = c .before .before .before .before .before .before .before .before .before .least .result in let read = c .before .before .before .before .before .before .before .read-clauses in
-    asked-all (at .table .now) (c .before .before .before .before .before .rect-at .result) _ (at .job .now) (at .at + QUERY_HEAD) _ n (read .last .1 .1 .0) (drop n (replicate 9 0)) (at .answer .now) _ (c .before .before .before .before .before .rect-at .ensures) (c .before .before .before .before .before .before .before .before .before .least .ensures ∙ ap (λ k. min k 9) (c .before .before .before .before .before .before .before .before .before .before .word-at .ensures)) (cut n (omega arith) ∙ sym (read .kept .1 .1 .0)) (read .ensures ∙ ap (clausesAt (at .job .now) (at .at + QUERY_HEAD)) (sym (cut n (omega arith)))) (c .before .before .query-sound .ensures)
+    asked-all (at .table .now) (c .before .before .before .before .before .rect-at .result) _ (at .job .now) (at .at + QUERY_HEAD) _ n (read .last .1 .1 .0) (drop n (replicate TOO_MANY 0)) (at .answer .now) _ (c .before .before .before .before .before .rect-at .ensures) (c .before .before .before .before .before .before .before .before .before .least .ensures ∙ ap (λ k. min k TOO_MANY) (c .before .before .before .before .before .before .before .before .before .before .word-at .ensures)) (cut n (omega arith) ∙ sym (read .kept .1 .1 .0)) (read .ensures ∙ ap (clausesAt (at .job .now) (at .at + QUERY_HEAD)) (sym (cut n (omega arith)))) (c .before .before .query-sound .ensures)
 
 pub ask-spec : {M : Type 1} → statement M
 ask-spec =

@@ -7,38 +7,38 @@ use Rattle.job.proofs.words.word_at.Tie as tie
 mul-at : tie.Need-mul-at
 mul-at c = search needs
 
-shared-slice-read-wide : tie.Need-shared-slice-read-wide
-shared-slice-read-wide c = search needs
+shared-slice-read-to-word : tie.Need-shared-slice-read-to-word
+shared-slice-read-to-word c = search needs
 
-wide-requires : tie.Need-wide-requires
-wide-requires c κs = search needs
+to-word-requires : tie.Need-to-word-requires
+to-word-requires c κs = search needs
 
-add-wide : tie.Need-add-wide
-add-wide c = search needs
+add-to-word : tie.Need-add-to-word
+add-to-word c = search needs
 
-shared-slice-read-wide-2 : tie.Need-shared-slice-read-wide-2
-shared-slice-read-wide-2 c = search needs
+shared-slice-read-to-word-2 : tie.Need-shared-slice-read-to-word-2
+shared-slice-read-to-word-2 c = search needs
 
-wide-requires-2 : tie.Need-wide-requires-2
-wide-requires-2 c κs = search needs
+to-word-requires-2 : tie.Need-to-word-requires-2
+to-word-requires-2 c κs = search needs
 
-add-wide-2 : tie.Need-add-wide-2
-add-wide-2 c = search needs
+add-to-word-2 : tie.Need-add-to-word-2
+add-to-word-2 c = search needs
 
-shared-slice-read-wide-3 : tie.Need-shared-slice-read-wide-3
-shared-slice-read-wide-3 c = search needs
+shared-slice-read-to-word-3 : tie.Need-shared-slice-read-to-word-3
+shared-slice-read-to-word-3 c = search needs
 
-wide-requires-3 : tie.Need-wide-requires-3
-wide-requires-3 c κs = search needs
+to-word-requires-3 : tie.Need-to-word-requires-3
+to-word-requires-3 c κs = search needs
 
-add-wide-3 : tie.Need-add-wide-3
-add-wide-3 c = search needs
+add-to-word-3 : tie.Need-add-to-word-3
+add-to-word-3 c = search needs
 
-shared-slice-read-wide-4 : tie.Need-shared-slice-read-wide-4
-shared-slice-read-wide-4 c = search needs
+shared-slice-read-to-word-4 : tie.Need-shared-slice-read-to-word-4
+shared-slice-read-to-word-4 c = search needs
 
-wide-requires-4 : tie.Need-wide-requires-4
-wide-requires-4 c κs = search needs
+to-word-requires-4 : tie.Need-to-word-requires-4
+to-word-requires-4 c κs = search needs
 
 mul-result : tie.Need-mul-result
 mul-result c = search needs
@@ -67,17 +67,17 @@ word-at-spec =
     tie.close
     (tie.spec
     mul-at
-    shared-slice-read-wide
-    wide-requires
-    add-wide
-    shared-slice-read-wide-2
-    wide-requires-2
-    add-wide-2
-    shared-slice-read-wide-3
-    wide-requires-3
-    add-wide-3
-    shared-slice-read-wide-4
-    wide-requires-4
+    shared-slice-read-to-word
+    to-word-requires
+    add-to-word
+    shared-slice-read-to-word-2
+    to-word-requires-2
+    add-to-word-2
+    shared-slice-read-to-word-3
+    to-word-requires-3
+    add-to-word-3
+    shared-slice-read-to-word-4
+    to-word-requires-4
     mul-result
     add-result
     mul-result-2
