@@ -12,4 +12,5 @@ pub mod Rows
 pub mod Answer
 pub mod Pages
 pub mod Near
+pub mod Whole
 pub mod Examples
