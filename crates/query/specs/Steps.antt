@@ -36,16 +36,9 @@ beyond q p = ltb (q .y2) (p .y1) || (ltb (p .y2) (q .y1) || (ltb (q .x2) (p .x1)
 abbrev pub passed : Reference → Rect → Bool
 passed q p = q .near && beyond (q .rect) p
 
--- p and q overlap; where all that overlaps the reference is admitted, it is taken
-unfoldable pub overlaps : Rect → Rect → Bool
-overlaps q p = ltb (p .y1) (q .y2) && (ltb (q .y1) (p .y2) && (ltb (p .x1) (q .x2) && ltb (q .x1) (p .x2)))
-
-abbrev pub taken : Reference → Rect → Bool
-taken q p = q .whole && overlaps (q .rect) p
-
--- what is passed by fails the test, and what is taken passes it
-abbrev pub Known : Reference → (Rect → Bool) → Type 0
-Known q test = ((p : Rect) → passed q p ≡ true → test p ≡ false) × ((p : Rect) → taken q p ≡ true → test p ≡ true)
+-- what is passed by fails the test
+abbrev pub Passing : Reference → (Rect → Bool) → Type 0
+Passing q test = (p : Rect) → passed q p ≡ true → test p ≡ false
 
 -- the leaf test by row sets, the page test by concatMap rows
 unfoldable pub admitsBy : List ℕ → Rect → Rect → Bool

@@ -15,7 +15,7 @@ ghost use Rattle.pages.specs.Sound.{sound};
 ghost use Rattle.pages.specs.Layout.{noEntry, page, tableIn};
 ghost use Rattle.query.specs.Opening.{openedUnder, openedPages};
 ghost use Rattle.query.specs.Calls.{refusalFrom, querySound, queryCall, OpenedWords, frontOf};
-ghost use Rattle.query.specs.Steps.{SoundPage, openedListed, beyond, passed, overlaps, taken, Known, admitsBy, opensBy, admittedR, hitsUnder, hitsFrom, MARK_BITS, withMark, marked, onesFrom, markedNumbers};
+ghost use Rattle.query.specs.Steps.{SoundPage, openedListed, beyond, passed, Passing, admitsBy, opensBy, admittedR, hitsUnder, hitsFrom, MARK_BITS, withMark, marked, onesFrom, markedNumbers};
 use pages::Entry;
 use pages::Rect;
 use relations::CODES;
@@ -39,11 +39,10 @@ pub struct Opened {
     pub count: u32,
 }
 
-// The reference rectangle; whether nothing beyond it can be admitted, and whether all that overlaps it is.
+// The reference rectangle, and whether nothing beyond it can be admitted.
 struct Reference {
     rect: Rect,
     near: bool,
-    whole: bool,
 }
 
 // The front part of the answer slice itself, its first count words; "a count above the length gives the empty part".
@@ -105,41 +104,13 @@ fn is_passed(reference: Reference, rect: Rect) -> bool
     false
 }
 
-fn overlaps(q: Rect, rect: Rect) -> bool
-    ensures { λ r. ⌜ r ≡ overlaps q rect ⌝ }
-{
-    if rect.y1 >= q.y2 {
-        return false;
-    }
-    if rect.y2 <= q.y1 {
-        return false;
-    }
-    if rect.x1 >= q.x2 {
-        return false;
-    }
-    rect.x2 > q.x1
-}
-
-// Whether a rectangle is taken without its codes.
-fn is_taken(reference: Reference, rect: Rect) -> bool
-    ensures { λ r. ⌜ r ≡ taken reference rect ⌝ }
-{
-    if reference.whole {
-        return overlaps(reference.rect, rect);
-    }
-    false
-}
-
-// Whether a piece's rectangle is admitted. Of those left to the codes most fail on y, where their row is empty.
+// Whether a piece's rectangle is admitted. Of those not passed by most fail on y, where their row is empty.
 fn admits(rows: &[u16; CODES], reference: Reference, rect: Rect) -> bool
-    requires { ⌜ Known reference (admitsBy (now rows) (reference .rect)) ⌝ }
+    requires { ⌜ Passing reference (admitsBy (now rows) (reference .rect)) ⌝ }
     ensures { λ r. ⌜ r ≡ admitsBy (now (rows .entry)) (reference .rect) rect ⌝ }
 {
     if is_passed(reference, rect) {
         return false;
-    }
-    if is_taken(reference, rect) {
-        return true;
     }
     let q = reference.rect;
     let i = relations::axis_code(rect.y1, rect.y2, q.y1, q.y2);
@@ -152,14 +123,11 @@ fn admits(rows: &[u16; CODES], reference: Reference, rect: Rect) -> bool
 
 // Whether a page's rectangle may hold an admitted one; y first, as above.
 fn opens(below: &[u16; CODES], masks: &[u16; CODES], reference: Reference, rect: Rect) -> bool
-    requires { ⌜ (now masks ≡ nodeMasks) × Known reference (opensBy (now below) (reference .rect)) ⌝ }
+    requires { ⌜ (now masks ≡ nodeMasks) × Passing reference (opensBy (now below) (reference .rect)) ⌝ }
     ensures { λ r. ⌜ r ≡ opensBy (now (below .entry)) (reference .rect) rect ⌝ }
 {
     if is_passed(reference, rect) {
         return false;
-    }
-    if is_taken(reference, rect) {
-        return true;
     }
     let q = reference.rect;
     let cy = relations::axis_code(rect.y1, rect.y2, q.y1, q.y2);
@@ -186,7 +154,7 @@ fn mark_leaf(
     p: usize,
     marks: &mut [u64; MARK_WORDS],
 )
-    requires { ⌜ SoundPage (now table) p 0 × Known reference (admitsBy (now rows) (reference .rect)) ⌝ }
+    requires { ⌜ SoundPage (now table) p 0 × Passing reference (admitsBy (now rows) (reference .rect)) ⌝ }
     ensures { λ _. ⌜ now (marks .exit) ≡ marked (now (marks .entry)) (concatMap (admittedR (admitsBy (now (rows .entry)) (reference .rect))) (page (tableIn (now (table .entry))) p .entries)) ⌝ }
 {
     let n = size_of(table, p, 0);
@@ -211,7 +179,7 @@ fn walk(
     marks: &mut [u64; MARK_WORDS],
     opened: u32,
 ) -> u32
-    requires { ⌜ SoundPage (now table) p level × (opened + length (openedUnder (opensBy (now below) (reference .rect)) (tableIn (now table) .pages) level p) ≤ PAGES) × (now masks ≡ nodeMasks) × Known reference (opensBy (now below) (reference .rect)) × Known reference (admitsBy (now rows) (reference .rect)) ⌝ }
+    requires { ⌜ SoundPage (now table) p level × (opened + length (openedUnder (opensBy (now below) (reference .rect)) (tableIn (now table) .pages) level p) ≤ PAGES) × (now masks ≡ nodeMasks) × Passing reference (opensBy (now below) (reference .rect)) × Passing reference (admitsBy (now rows) (reference .rect)) ⌝ }
     ensures { λ r. ⌜ (r ≡ opened + length (openedUnder (opensBy (now (below .entry)) (reference .rect)) (tableIn (now (table .entry)) .pages) level p))
         × (now (marks .exit) ≡ marked (now (marks .entry)) (hitsUnder (admitsBy (now (rows .entry)) (reference .rect)) (opensBy (now (below .entry)) (reference .rect)) (tableIn (now (table .entry)) .pages) level p)) ⌝ }
 {
@@ -251,7 +219,7 @@ fn open_walk(
     answer: &mut [u16],
     at: usize,
 ) -> usize
-    requires { ⌜ SoundPage (now table) p level × (at + length (openedUnder (opensBy (now below) (reference .rect)) (tableIn (now table) .pages) level p) ≤ length (now answer)) × (now masks ≡ nodeMasks) × Known reference (opensBy (now below) (reference .rect)) ⌝ }
+    requires { ⌜ SoundPage (now table) p level × (at + length (openedUnder (opensBy (now below) (reference .rect)) (tableIn (now table) .pages) level p) ≤ length (now answer)) × (now masks ≡ nodeMasks) × Passing reference (opensBy (now below) (reference .rect)) ⌝ }
     ensures { λ r. ⌜ (r ≡ at + length (openedUnder (opensBy (now (below .entry)) (reference .rect)) (tableIn (now (table .entry)) .pages) level p))
         × (now (answer .exit) ≡ sets (now (answer .entry)) at (openedUnder (opensBy (now (below .entry)) (reference .rect)) (tableIn (now (table .entry)) .pages) level p)) ⌝ }
 {
@@ -333,7 +301,6 @@ fn search(table: &[u32], reference: Rect, rows: &[u16; CODES], marks: &mut [u64;
     let q = Reference {
         rect: reference,
         near: relations::is_near(&below, &masks),
-        whole: relations::is_whole(rows),
     };
     let root = root_of(table);
     let level = level_of(table, root);
@@ -351,7 +318,6 @@ fn list_opened(table: &[u32], reference: Rect, rows: &[u16; CODES], answer: &mut
     let q = Reference {
         rect: reference,
         near: relations::is_near(&below, &masks),
-        whole: relations::is_whole(rows),
     };
     let root = root_of(table);
     let level = level_of(table, root);

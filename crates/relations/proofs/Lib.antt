@@ -12,5 +12,4 @@ pub mod Rows
 pub mod Answer
 pub mod Pages
 pub mod Near
-pub mod Whole
 pub mod Examples

@@ -7,7 +7,7 @@ ghost use Rattle.relations.specs.Sets.{total, listed};
 ghost use Rattle.relations.specs.Axis.{CODES, code, IsCode};
 ghost use Rattle.relations.specs.Relation.{setsOf};
 ghost use Rattle.relations.specs.Query.{refusalOf, admittedOf};
-ghost use Rattle.relations.specs.Steps.{sideOf, namedRow, withRelation, cutTo, joinedOf, nodeMasks, pageTest, openAt, nearBy, wholeBy, rowsHave};
+ghost use Rattle.relations.specs.Steps.{sideOf, namedRow, withRelation, cutTo, joinedOf, nodeMasks, pageTest, openAt, nearBy, rowsHave};
 
 // The codes are 1 to 13.
 pub const CODES: usize = 13;
@@ -49,9 +49,6 @@ const ACROSS: [u16; 8] = [8191, 8191, 256, 256, 1, 7, 8191, 8191];
 const ALONG_TURNED: [u16; 8] = [4096, 1024, 4096, 1024, 4096, 1024, 2048, 7168];
 
 const ACROSS_TURNED: [u16; 8] = [8191, 8191, 256, 256, 4096, 7168, 8191, 8191];
-
-// The codes 3 to 11, of intervals that overlap.
-const OVERLAPPING: u16 = 2_044;
 
 // The code of a page that reaches beyond the reference on both sides, in which every code can stand.
 const AROUND: usize = 5;
@@ -295,23 +292,6 @@ pub fn is_near(below: &[u16; CODES], masks: &[u16; CODES]) -> bool
         return false;
     }
     !is_open(below, masks, CODES)
-}
-
-// Whether every configuration of overlapping rectangles is admitted, as for "overlap": what overlaps the reference then
-// needs no codes either.
-pub fn is_whole(rows: &[u16; CODES]) -> bool
-    ensures { λ r. ⌜ r ≡ wholeBy (now (rows .entry)) ⌝ }
-{
-    let shared = rows[2]
-        & rows[3]
-        & rows[4]
-        & rows[5]
-        & rows[6]
-        & rows[7]
-        & rows[8]
-        & rows[9]
-        & rows[10];
-    shared & OVERLAPPING == OVERLAPPING
 }
 
 // Whether configuration (i, j) is admitted, by the row sets.

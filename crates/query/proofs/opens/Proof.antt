@@ -15,41 +15,35 @@ is-passed-requires : tie.Need-is-passed-requires
 is-passed-requires c κs = search needs
 
 returns : tie.Need-returns
-returns c = sym (c .before .before .pre .1 .0 _ (sym (c .before .is-passed .ensures) ∙ c .if1 .taken))
-
-is-taken-requires : tie.Need-is-taken-requires
-is-taken-requires c κs = search needs
-
-returns-2 : tie.Need-returns-2
-returns-2 c = sym (c .before .before .before .before .pre .1 .1 _ (sym (c .before .is-taken .ensures) ∙ c .if2 .taken))
+returns c = sym (c .before .before .pre .1 _ (sym (c .before .is-passed .ensures) ∙ c .if1 .taken))
 
 axis-code-requires : tie.Need-axis-code-requires
 axis-code-requires c κs = search needs
 
-sub-if3 : tie.Need-sub-if3
-sub-if3 c = omega (arith, coded _ _ _ _ _ (c .axis-code .ensures) .low)
+sub-if2 : tie.Need-sub-if2
+sub-if2 c = omega (arith, coded _ _ _ _ _ (c .axis-code .ensures) .low)
 
-mul-if3 : tie.Need-mul-if3
-mul-if3 c = omega (arith, coded _ _ _ _ _ (c .axis-code .ensures) .high)
+mul-if2 : tie.Need-mul-if2
+mul-if2 c = omega (arith, coded _ _ _ _ _ (c .axis-code .ensures) .high)
 
-element-copy-out-if3 : tie.Need-element-copy-out-if3
-element-copy-out-if3 c = omega (arith, coded _ _ _ _ _ (c .axis-code .ensures) .high)
+element-copy-out-if2 : tie.Need-element-copy-out-if2
+element-copy-out-if2 c = omega (arith, coded _ _ _ _ _ (c .axis-code .ensures) .high)
 
-returns-3 : tie.Need-returns-3
+returns-2 : tie.Need-returns-2
 unfolding opensBy
-returns-3 c =
-    let a = c .before .before .before .before .before .before .before .before .args in
-    sym (empty-below (a .below .now) _ _ (ap (λ x. getD (a .below .now) (x - 1) 0) (sym (c .before .before .axis-code .ensures)) ∙ c .if3 .taken))
+returns-2 c =
+    let a = c .before .before .before .before .before .before .args in
+    sym (empty-below (a .below .now) _ _ (ap (λ x. getD (a .below .now) (x - 1) 0) (sym (c .before .before .axis-code .ensures)) ∙ c .if2 .taken))
 
 axis-code-requires-2 : tie.Need-axis-code-requires-2
 axis-code-requires-2 c κs = search needs
 
 page-test-requires : tie.Need-page-test-requires
-page-test-requires c κs = (coded _ _ _ _ _ (c .before .before .before .axis-code .ensures), coded _ _ _ _ _ (c .axis-code2 .ensures), c .before .before .before .before .before .before .before .before .before .pre .0)
+page-test-requires c κs = (coded _ _ _ _ _ (c .before .before .before .axis-code .ensures), coded _ _ _ _ _ (c .axis-code2 .ensures), c .before .before .before .before .before .before .before .pre .0)
 
-returns-4 : tie.Need-returns-4
+returns-3 : tie.Need-returns-3
 unfolding opensBy
-returns-4 c =
+returns-3 c =
     c .page-test .ensures ∙ ap₂ (pageTest _) (c .before .before .before .before .axis-code .ensures) (c .before .axis-code2 .ensures)
 
 pub opens-spec : {M : Type 1} → statement M
@@ -58,13 +52,11 @@ opens-spec =
     (tie.spec
     is-passed-requires
     returns
-    is-taken-requires
-    returns-2
     axis-code-requires
-    sub-if3
-    mul-if3
-    element-copy-out-if3
-    returns-3
+    sub-if2
+    mul-if2
+    element-copy-out-if2
+    returns-2
     axis-code-requires-2
     page-test-requires
-    returns-4)
+    returns-3)
