@@ -7,6 +7,9 @@ use printing::WORD_VALUES;
 use printing::store;
 use printing::word;
 
+// The last of 1,024.
+const LAST: u32 = pages::PIECES - 1;
+
 pub enum Lay {
     Rising,
     Falling,
@@ -172,11 +175,7 @@ fn refused(x: u32) -> Call {
 fn from_last(i: u32) -> u32
     ensures { λ r. ⌜ r < 1024 ⌝ }
 {
-    if i < pages::PIECES {
-        pages::PIECES - 1 - i
-    } else {
-        0
-    }
+    if i < pages::PIECES { LAST - i } else { 0 }
 }
 
 fn call_at(lay: Lay, i: u32, x: u32) -> Call
@@ -233,10 +232,10 @@ fn swap_calls(calls: &mut [u32], i: u32, j: u32) {
     }
 }
 
-// For i = 1023, 1022, .. 1: the calls at i and at below(i + 1) change places.
+// From the last of 1,024 down to the second: the calls at i and at below(i + 1) change places.
 fn shuffle(calls: &mut [u32], x: u32) {
     let mut state: u32 = x;
-    let mut i: u32 = 1_023;
+    let mut i: u32 = LAST;
     while i > 0 {
         state = step(state);
         swap_calls(calls, i, below(state, i + 1));

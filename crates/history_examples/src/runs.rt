@@ -20,10 +20,10 @@ use printing::word;
 
 const QUESTIONS: u32 = 10;
 
-// The longest list has 3,000 calls of five words.
+// The longest list.
 const MOST_CALLS: usize = 3_000;
 
-const MOST_WORDS: usize = 15_000;
+const MOST_WORDS: usize = CALL_WORDS * MOST_CALLS;
 
 // After how many calls the sum of the table is printed.
 const STOPS: [u32; 7] = [1, 8, 9, 10, 33, 100, 500];

@@ -1,5 +1,8 @@
-// What the example programs print: numbers, sums of words, the answer of a query. Reads and stores here need no bounds.
+// What the example programs print: numbers, sums of words, the answer of a query. A read or a store past the end is harmless here, so
+// that the programs need no bounds.
+ghost use mathlib.Core.Path.{_≡_};
 ghost use Prim.Native.Nat.{_≤_};
+ghost use lib.ListN.{getD, set};
 use libc::STDOUT_FILENO;
 use pages::Rect;
 
@@ -31,14 +34,18 @@ pub fn edges(r: Rect) {
 }
 
 // A store past the end does nothing.
-pub fn store(list: &mut [u32], i: usize, value: u32) {
+pub fn store(list: &mut [u32], i: usize, value: u32)
+    ensures { λ _. ⌜ now (list .exit) ≡ set (now (list .entry)) i value ⌝ }
+{
     if i < list.len() {
         list[i] = value;
     }
 }
 
 // The word at i, and zero past the end.
-pub fn word(list: &[u32], i: usize) -> u32 {
+pub fn word(list: &[u32], i: usize) -> u32
+    ensures { λ r. ⌜ r ≡ getD (now (list .entry)) i 0 ⌝ }
+{
     if i < list.len() { list[i] } else { 0 }
 }
 
@@ -51,13 +58,13 @@ pub fn range(list: &[u32], from: usize, count: usize)
     }
 }
 
-fn wide(n: u16) -> u32 {
+fn to_word(n: u16) -> u32 {
     n as u32
 }
 
 fn short_words(list: &[u16]) {
     for i in 0..list.len() {
-        number(wide(list[i]));
+        number(to_word(list[i]));
     }
 }
 
@@ -83,7 +90,7 @@ pub fn checksum(list: &[u32]) {
 fn short_checksum(list: &[u16]) {
     let mut sum: u32 = 0;
     for i in 0..list.len() {
-        sum = added(sum, wide(list[i]));
+        sum = added(sum, to_word(list[i]));
     }
     number(sum);
 }

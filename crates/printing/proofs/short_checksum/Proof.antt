@@ -15,14 +15,14 @@ abbrev μ-loop : tie.MeasureT-loop
 loop-holds : tie.Need-loop-holds Inv-loop μ-loop
 loop-holds c = search needs
 
-mul-wide : tie.Need-mul-wide Inv-loop μ-loop
-mul-wide c = search needs
+mul-to-word : tie.Need-mul-to-word Inv-loop μ-loop
+mul-to-word c = search needs
 
-shared-slice-read-wide : tie.Need-shared-slice-read-wide Inv-loop μ-loop
-shared-slice-read-wide c = search needs
+shared-slice-read-to-word : tie.Need-shared-slice-read-to-word Inv-loop μ-loop
+shared-slice-read-to-word c = search needs
 
-wide-requires : tie.Need-wide-requires Inv-loop μ-loop
-wide-requires c κs = search needs
+to-word-requires : tie.Need-to-word-requires Inv-loop μ-loop
+to-word-requires c κs = search needs
 
 added-requires : tie.Need-added-requires Inv-loop μ-loop
 added-requires c κs = search needs
@@ -49,9 +49,9 @@ short-checksum-spec =
     Inv-loop
     μ-loop
     loop-holds
-    mul-wide
-    shared-slice-read-wide
-    wide-requires
+    mul-to-word
+    shared-slice-read-to-word
+    to-word-requires
     added-requires
     add-i
     loop-less
