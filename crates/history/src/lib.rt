@@ -3,6 +3,7 @@ use pages::ACCEPTED;
 use pages::ALREADY_STANDING;
 use pages::ANSWER_TOO_SHORT;
 use pages::NUMBER_TOO_LARGE;
+use pages::NUMBERS;
 use pages::PIECES;
 use pages::RECTANGLE_NOT_VALID;
 use pages::Rect;
@@ -20,9 +21,6 @@ ghost use Rattle.history.specs.Replay.{Marked, replayCall};
 
 // The words of a place call: number, x1, y1, x2, y2.
 pub const CALL_WORDS: usize = 5;
-
-// How many piece numbers there are, as a length.
-const NUMBERS: usize = PIECES as usize;
 
 // The rectangle of the call whose words start at `at`.
 fn rect_at(calls: &[u32], at: usize) -> Rect

@@ -11,6 +11,9 @@ ghost use Rattle.pages.specs.Calls.{emptyCall};
 // How many piece numbers there are.
 pub const PIECES: u32 = 1_024;
 
+// The same, as a length.
+pub const NUMBERS: usize = PIECES as usize;
+
 // The largest edge of a valid rectangle.
 pub const EDGE: u32 = 1_000_000;
 

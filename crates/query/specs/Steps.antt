@@ -40,7 +40,7 @@ passed q p = q .near && beyond (q .rect) p
 abbrev pub Passing : Reference → (Rect → Bool) → Type 0
 Passing q test = (p : Rect) → passed q p ≡ true → test p ≡ false
 
--- the leaf test by row sets, the page test by concatMap rows
+-- the leaf test by row sets, the page test by joined rows
 unfoldable pub admitsBy : List ℕ → Rect → Rect → Bool
 admitsBy rows q p = rowsHave rows (codeY q p) (codeX q p)
 

@@ -1,5 +1,6 @@
 // The check call: one walk over the pages from the root, which tests all that soundness asks.
 use pages::FEWEST;
+use pages::NUMBERS;
 use pages::PAGE_COUNT;
 use pages::PIECE_COUNT;
 use pages::ROOT;
@@ -18,9 +19,6 @@ ghost use Rattle.pages.specs.Readers.{entriesIn};
 ghost use Rattle.pages.specs.Sound.{is, zeros, sound};
 ghost use Rattle.soundness.specs.Calls.{checkCall};
 ghost use Rattle.soundness.specs.Steps.{totalOf, Piece, Head, Tested, LeafTested, Visited, withChild, rootFewest, Rooted};
-
-// How many piece numbers there are, as a length.
-const NUMBERS: usize = pages::PIECES as usize;
 
 // What check answers: a count of 6 is no refusal 6, so they stand apart.
 #[repr(C)]
