@@ -226,7 +226,7 @@ pub fn node_masks() -> [u16; CODES]
 }
 
 // The row sets joined for each code of a page, made once for each query: the page test then looks at one row. Written out
-// by the thirteen sets, since a loop over their masks took longer than most walks.
+// by the thirteen sets, since a loop over their masks took longer than the rest of a query's preparation.
 pub fn joined(rows: &[u16; CODES]) -> [u16; CODES]
     ensures { λ r. ⌜ r ≡ joinedOf (now (rows .entry)) ⌝ }
 {
