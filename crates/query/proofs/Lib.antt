@@ -7,7 +7,7 @@ pub mod Walking
 pub mod Found
 pub mod Root
 pub mod Tests
-pub mod Near
+pub mod Known
 pub mod Calls
 pub mod Whole
 pub mod Members

@@ -11,14 +11,14 @@ use lib.Seq.{getD-set-same, getD-set-other, sets}
 use lib.Bits.{bitOr}
 use lib.Dec.{ltb, eqb}
 use borrow.Author.Tests.{lt-ltb, eq-eqb, ne-eqb}
-use Rattle.relations.specs.Sets.{bit}
+use Rattle.relations.specs.Sets.{bit, onesFrom}
 use Rattle.relations.proofs.Bits.{bit-half, bit-none, bit-or}
 use Rattle.pages.specs.Sizes.{PIECES}
 use Rattle.pages.specs.Lists.{one}
 use Rattle.pages.proofs.Zeros.{zero-at}
 use Rattle.query.specs.Listing.{rising}
 use Rattle.query.specs.Calls.{times}
-use Rattle.query.specs.Steps.{MARK_BITS, MARK_WORDS, isMarked, withMark, marked, onesFrom, markedNumbers}
+use Rattle.query.specs.Steps.{MARK_BITS, MARK_WORDS, isMarked, withMark, marked, markedNumbers}
 use Rattle.query.proofs.Concat.{sets-append}
 use Rattle.query.proofs.Bits.{bit-pow}
 

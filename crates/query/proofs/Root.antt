@@ -74,22 +74,22 @@ module _ (w : List ℕ) (words : TABLE_WORDS ≤ length w) (holds : T (sound w))
   pub root-room : (o : Rect → Bool) → l ≡ page (tableIn w) r .level → 0 + length (openedUnder o (tableIn w .pages) l r) ≤ length (tableIn w .pages)
   root-room o level = omega (arith, ap length (opened-from (tableIn w) r l root level o), opened-few (tableIn w) (sound-in w holds) o)
 
-  pub root-few : (o : Rect → Bool) → l ≡ page (tableIn w) r .level → 0 + length (openedUnder o (tableIn w .pages) l r) ≤ PAGES
+  pub root-few : (o : Rect → Bool) → l ≡ page (tableIn w) r .level → length (openedUnder o (tableIn w .pages) l r) ≤ PAGES
   root-few o level = omega (arith, root-room o level, sound-in w holds .most)
 
--- what the walk from the root gives
-pub search-done : (t : Table) (r l : ℕ) → r ≡ t .root → l ≡ page t r .level → (rows below : List ℕ) (q : Rect) (n : ℕ) (m m′ : List ℕ) → below ≡ joinedOf rows
-    → (n ≡ 0 + length (openedUnder (opensBy below q) (t .pages) l r)) × (m′ ≡ marked m (hitsUnder (admitsBy rows q) (opensBy below q) (t .pages) l r))
+-- what the walk from the root gives; q′ is the reference as the frame has it
+pub search-done : (t : Table) (r l : ℕ) → r ≡ t .root → l ≡ page t r .level → (rows below : List ℕ) (q q′ : Rect) (n : ℕ) (m m′ : List ℕ) → below ≡ joinedOf rows → q′ ≡ q
+    → (n ≡ length (openedUnder (opensBy below q′) (t .pages) l r)) × (m′ ≡ marked m (hitsUnder (admitsBy rows q′) (opensBy below q′) (t .pages) l r))
     → (n ≡ length (openedPages (opensBy (joinedOf rows) q) t)) × (m′ ≡ marked m (hitsFrom (admitsBy rows q) (opensBy (joinedOf rows) q) t))
-search-done t r l root level rows below q n m m′ e h =
-    let a : openedUnder (opensBy below q) (t .pages) l r ≡ openedPages (opensBy (joinedOf rows) q) t = opened-from t r l root level (opensBy below q) ∙ ap (λ x. openedPages (opensBy x q) t) e in
-    let b : hitsUnder (admitsBy rows q) (opensBy below q) (t .pages) l r ≡ hitsFrom (admitsBy rows q) (opensBy (joinedOf rows) q) t =
-    hits-from t r l root level (admitsBy rows q) (opensBy below q) ∙ ap (λ x. hitsFrom (admitsBy rows q) (opensBy x q) t) e in
-    (omega (arith, h .0, ap length a), h .1 ∙ ap (marked m) b)
+search-done t r l root level rows below q q′ n m m′ e f h =
+    let a : openedUnder (opensBy below q′) (t .pages) l r ≡ openedPages (opensBy (joinedOf rows) q) t = opened-from t r l root level (opensBy below q′) ∙ ap₂ (λ x y. openedPages (opensBy x y) t) e f in
+    let b : hitsUnder (admitsBy rows q′) (opensBy below q′) (t .pages) l r ≡ hitsFrom (admitsBy rows q) (opensBy (joinedOf rows) q) t =
+    hits-from t r l root level (admitsBy rows q′) (opensBy below q′) ∙ ap₂ (λ x y. hitsFrom (admitsBy rows y) (opensBy x y) t) e f in
+    (h .0 ∙ ap length a, h .1 ∙ ap (marked m) b)
 
-pub list-done : (t : Table) (r l : ℕ) → r ≡ t .root → l ≡ page t r .level → (rows below : List ℕ) (q : Rect) (n : ℕ) (o o′ : List ℕ) → below ≡ joinedOf rows
-    → (n ≡ 0 + length (openedUnder (opensBy below q) (t .pages) l r)) × (o′ ≡ sets o 0 (openedUnder (opensBy below q) (t .pages) l r))
+pub list-done : (t : Table) (r l : ℕ) → r ≡ t .root → l ≡ page t r .level → (rows below : List ℕ) (q q′ : Rect) (n : ℕ) (o o′ : List ℕ) → below ≡ joinedOf rows → q′ ≡ q
+    → (n ≡ 0 + length (openedUnder (opensBy below q′) (t .pages) l r)) × (o′ ≡ sets o 0 (openedUnder (opensBy below q′) (t .pages) l r))
     → (n ≡ length (openedPages (opensBy (joinedOf rows) q) t)) × (o′ ≡ sets o 0 (openedPages (opensBy (joinedOf rows) q) t))
-list-done t r l root level rows below q n o o′ e h =
-    let a : openedUnder (opensBy below q) (t .pages) l r ≡ openedPages (opensBy (joinedOf rows) q) t = opened-from t r l root level (opensBy below q) ∙ ap (λ x. openedPages (opensBy x q) t) e in
+list-done t r l root level rows below q q′ n o o′ e f h =
+    let a : openedUnder (opensBy below q′) (t .pages) l r ≡ openedPages (opensBy (joinedOf rows) q) t = opened-from t r l root level (opensBy below q′) ∙ ap₂ (λ x y. openedPages (opensBy x y) t) e f in
     (omega (arith, h .0, ap length a), h .1 ∙ ap (sets o 0) a)

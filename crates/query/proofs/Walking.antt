@@ -125,9 +125,9 @@ module _ (opens : Rect → Bool) (ps : List Page) (l : ℕ) (es : List Entry) (i
   )
 
   pub marking-open : (q : ℕ) → q ≡ e .r → (admit : Rect → Bool) (m₀ m m′ : List ℕ) (r : ℕ) → opens (e .rect) ≡ true → Marking admit opens ps l es i b s m₀ m
-      → (r ≡ s + length (openedUnder opens ps l q)) × (m′ ≡ marked m (hitsUnder admit opens ps l q)) → Marking admit opens ps l es (i + 1) b r m₀ m′
+      → (r ≡ length (openedUnder opens ps l q)) × (m′ ≡ marked m (hitsUnder admit opens ps l q)) → Marking admit opens ps l es (i + 1) b (s + r) m₀ m′
   marking-open q z admit m₀ m m′ r y u w = (
-    more-count (openEach opens ps l) es i e il at (openedUnder opens ps l q) b s r (rw (y, z)) (u .0) (w .0),
+    more-count (openEach opens ps l) es i e il at (openedUnder opens ps l q) b s (s + r) (rw (y, z)) (u .0) (ap (λ x. s + x) (w .0)),
     more-marks (hitEach admit opens ps l) es i e il at (hitsUnder admit opens ps l q) m₀ m m′ (rw (y, z)) (u .1) (w .1),
   )
 

@@ -1,6 +1,6 @@
 -- What the inner functions are held to: the tests on rows, the piece numbers that a walk meets, and marks as bits.
-use Prim.Native.Nat.{ℕ, zero, suc, _/_, _%_, _^_, _≤_, _<_}
-use mathlib.Core.Bool.{Bool, true, false, cond, _&&_, _||_}
+use Prim.Native.Nat.{ℕ, zero, suc, _+_, _-_, _/_, _%_, _^_, _≤_, _<_}
+use mathlib.Core.Bool.{Bool, true, false, cond, _||_}
 use mathlib.Core.Path.{_≡_}
 use mathlib.Core.List.{List, [], _∷_, _++_}
 use lib.ListN.{length, getD, drop, set}
@@ -12,11 +12,11 @@ use Rattle.relations.specs.Steps.{pageTest, rowsHave}
 use Rattle.pages.specs.declared.Rect.{Rect}
 use Rattle.pages.specs.declared.Entry.{Entry}
 use Rattle.pages.specs.Sizes.{TABLE_WORDS, PIECES}
+use Rattle.pages.specs.Rectangles.{rectOf, valid}
 use Rattle.pages.specs.Refusals.{ACCEPTED}
 use Rattle.pages.specs.Layout.{Page, Table, pageAt, page, tableIn}
 use Rattle.pages.specs.Sound.{sound}
 use Rattle.query.specs.declared.Opened.{Opened}
-use Rattle.query.specs.declared.Reference.{Reference}
 use Rattle.query.specs.Admission.{codeY, codeX}
 use Rattle.query.specs.Listing.{rising}
 use Rattle.query.specs.Calls.{queryOpened, openedSound}
@@ -28,17 +28,33 @@ pub record SoundPage (w : List ℕ) (p l : ℕ) : Type 0 where
   pub inside : p < length (tableIn w .pages)
   pub level : page (tableIn w) p .level ≡ l
 
+-- a walk carries eight words: the reference's edges, and those of the window
+abbrev pub frameOf : Rect → Rect → List ℕ
+frameOf q w = q .x1 ∷ q .y1 ∷ q .x2 ∷ q .y2 ∷ w .x1 ∷ w .y1 ∷ w .x2 ∷ w .y2 ∷ []
+
+abbrev pub referenceOf : List ℕ → Rect
+referenceOf f = rectOf (getD f 0 0) (getD f 1 0) (getD f 2 0) (getD f 3 0)
+
+abbrev pub windowOf : List ℕ → Rect
+windowOf f = rectOf (getD f 4 0) (getD f 5 0) (getD f 6 0) (getD f 7 0)
+
+abbrev pub WORD_MAX : ℕ
+WORD_MAX = 4_294_967_295
+
+-- drawn in by one unit where nothing is admitted that does not overlap the reference, the reference itself where nothing
+-- beyond it is, else all that words can hold
+unfoldable pub windowFor : Rect → Bool → Bool → Rect
+windowFor q near inner = cond inner (rectOf (q .x1 + 1) (q .y1 + 1) (q .x2 - 1) (q .y2 - 1)) (cond near q (rectOf 0 0 WORD_MAX WORD_MAX))
+
 -- p lies beyond q on one of its sides
 unfoldable pub beyond : Rect → Rect → Bool
 beyond q p = ltb (q .y2) (p .y1) || (ltb (p .y2) (q .y1) || (ltb (q .x2) (p .x1) || ltb (p .x2) (q .x1)))
 
--- where nothing beyond the reference can be admitted, what lies there is passed by
-abbrev pub passed : Reference → Rect → Bool
-passed q p = q .near && beyond (q .rect) p
-
--- what is passed by fails the test
-abbrev pub Passing : Reference → (Rect → Bool) → Type 0
-Passing q test = (p : Rect) → passed q p ≡ true → test p ≡ false
+-- the frame of a valid reference: what lies beyond its window fails the test, and where `whole` holds all else passes it
+pub record Known (f : List ℕ) (whole : Bool) (test : Rect → Rect → Bool) : Type 0 where
+  pub proper : T (valid (referenceOf f))
+  pub fails : (p : Rect) → p .x1 ≤ WORD_MAX → p .y1 ≤ WORD_MAX → beyond (windowOf f) p ≡ true → test (referenceOf f) p ≡ false
+  pub passes : whole ≡ true → (p : Rect) → beyond (windowOf f) p ≡ false → test (referenceOf f) p ≡ true
 
 -- the leaf test by row sets, the page test by joined rows
 unfoldable pub admitsBy : List ℕ → Rect → Rect → Bool
@@ -78,11 +94,6 @@ withMark marks c = set marks (c / MARK_BITS) (bitOr (getD marks (c / MARK_BITS) 
 unfoldable pub marked : List ℕ → List ℕ → List ℕ
 marked marks [] = marks
 marked marks (c ∷ cs) = marked (withMark marks c) cs
-
--- the places of the ones among the lowest k bits of n, counted from b
-unfoldable pub onesFrom : ℕ → ℕ → ℕ → List ℕ
-onesFrom b zero n = []
-onesFrom b (suc k) n = cond (bit n 0) (b ∷ []) [] ++ onesFrom (suc b) k (n / 2)
 
 -- the marked numbers, rising
 unfoldable pub markedNumbers : List ℕ → List ℕ

@@ -8,14 +8,16 @@ ghost use lib.ListN.{length, getD};
 ghost use lib.Seq.{sets};
 ghost use lib.Dec.{T};
 ghost use Rattle.pages.specs.Lists.{concatMap};
-ghost use Rattle.relations.specs.Steps.{joinedOf, nodeMasks};
+ghost use Rattle.relations.specs.Sets.{onesFrom};
+ghost use Rattle.relations.specs.Steps.{joinedOf, nodeMasks, nearBy, innerBy};
 ghost use Rattle.pages.specs.Sizes.{PAGES, PIECES, TABLE_WORDS};
 ghost use Rattle.pages.specs.Rectangles.{valid};
 ghost use Rattle.pages.specs.Sound.{sound};
 ghost use Rattle.pages.specs.Layout.{noEntry, page, tableIn};
+ghost use Rattle.query.specs.Admission.{codeY, codeX};
 ghost use Rattle.query.specs.Opening.{openedUnder, openedPages};
 ghost use Rattle.query.specs.Calls.{refusalFrom, querySound, queryCall, OpenedWords, frontOf};
-ghost use Rattle.query.specs.Steps.{SoundPage, openedListed, beyond, passed, Passing, admitsBy, opensBy, admittedR, hitsUnder, hitsFrom, MARK_BITS, withMark, marked, onesFrom, markedNumbers};
+ghost use Rattle.query.specs.Steps.{SoundPage, openedListed, frameOf, referenceOf, windowOf, windowFor, beyond, Known, admitsBy, opensBy, admittedR, hitsUnder, hitsFrom, MARK_BITS, withMark, marked, markedNumbers};
 use pages::Entry;
 use pages::Rect;
 use relations::CODES;
@@ -23,6 +25,26 @@ use relations::CODES;
 const MARK_BITS: u32 = 64;
 
 const MARK_WORDS: usize = 16;
+
+// A walk carries a frame: the reference's four edges, then those of the window, beyond which nothing passes a test. It is
+// lent as an array, since a struct is copied by every call.
+const FRAME_WORDS: usize = 8;
+
+const X1: usize = 0;
+
+const Y1: usize = 1;
+
+const X2: usize = 2;
+
+const Y2: usize = 3;
+
+const WINDOW_X1: usize = 4;
+
+const WINDOW_Y1: usize = 5;
+
+const WINDOW_X2: usize = 6;
+
+const WINDOW_Y2: usize = 7;
 
 // What a query answers: its refusal, how many pieces it listed, and how many pages it opened.
 #[repr(C)]
@@ -37,12 +59,6 @@ pub struct Answer {
 pub struct Opened {
     pub refusal: u32,
     pub count: u32,
-}
-
-// The reference rectangle, and whether nothing beyond it can be admitted.
-struct Reference {
-    rect: Rect,
-    near: bool,
 }
 
 // The front part of the answer slice itself, its first count words; "a count above the length gives the empty part".
@@ -78,63 +94,113 @@ fn entry_at(table: &[u32], p: usize, level: usize, i: usize) -> Entry
     pages::entry_of(pages::page_of(table, p), i)
 }
 
-// Whether a rectangle lies beyond q on one of its sides.
-fn is_beyond(q: Rect, rect: Rect) -> bool
-    ensures { λ r. ⌜ r ≡ beyond q rect ⌝ }
+// The window of a reference: drawn in by one unit where nothing is admitted that does not overlap the reference, the reference
+// itself where nothing beyond it is, else all that words can hold.
+fn window(q: Rect, near: bool, inner: bool) -> Rect
+    requires { ⌜ T (valid q) ⌝ }
+    ensures { λ r. ⌜ r ≡ windowFor q near inner ⌝ }
 {
-    if rect.y1 > q.y2 {
-        return true;
+    if inner {
+        return Rect {
+            x1: q.x1 + 1,
+            y1: q.y1 + 1,
+            x2: q.x2 - 1,
+            y2: q.y2 - 1,
+        };
     }
-    if rect.y2 < q.y1 {
-        return true;
+    if near {
+        return q;
     }
-    if rect.x1 > q.x2 {
-        return true;
+    Rect {
+        x1: 0,
+        y1: 0,
+        x2: u32::MAX,
+        y2: u32::MAX,
     }
-    rect.x2 < q.x1
 }
 
-// Whether a rectangle is passed by without its codes.
-fn is_passed(reference: Reference, rect: Rect) -> bool
-    ensures { λ r. ⌜ r ≡ passed reference rect ⌝ }
+// The frame of a query whose joined rows are `below`.
+fn framed(q: Rect, below: &[u16; CODES], masks: &[u16; CODES]) -> [u32; FRAME_WORDS]
+    requires { ⌜ (now masks ≡ nodeMasks) × T (valid q) ⌝ }
+    ensures { λ r. ⌜ r ≡ frameOf q (windowFor q (nearBy (now (below .entry))) (innerBy (now (below .entry)))) ⌝ }
 {
-    if reference.near {
-        return is_beyond(reference.rect, rect);
-    }
-    false
+    let near = relations::is_near(below, masks);
+    let inner = relations::is_inner(below, masks);
+    let w = window(q, near, inner);
+    [q.x1, q.y1, q.x2, q.y2, w.x1, w.y1, w.x2, w.y2]
 }
 
-// Whether a piece's rectangle is admitted. Of those not passed by most fail on y, where their row is empty.
-fn admits(rows: &[u16; CODES], reference: Reference, rect: Rect) -> bool
-    requires { ⌜ Passing reference (admitsBy (now rows) (reference .rect)) ⌝ }
-    ensures { λ r. ⌜ r ≡ admitsBy (now (rows .entry)) (reference .rect) rect ⌝ }
+// Whether a rectangle lies beyond the window on one of its sides.
+fn is_beyond(frame: &[u32; FRAME_WORDS], rect: Rect) -> bool
+    ensures { λ r. ⌜ r ≡ beyond (windowOf (now (frame .entry))) rect ⌝ }
 {
-    if is_passed(reference, rect) {
+    if rect.y1 > frame[WINDOW_Y2] {
+        return true;
+    }
+    if rect.y2 < frame[WINDOW_Y1] {
+        return true;
+    }
+    if rect.x1 > frame[WINDOW_X2] {
+        return true;
+    }
+    rect.x2 < frame[WINDOW_X1]
+}
+
+fn code_y(frame: &[u32; FRAME_WORDS], rect: Rect) -> usize
+    requires { ⌜ T (valid (referenceOf (now frame))) ⌝ }
+    ensures { λ r. ⌜ r ≡ codeY (referenceOf (now (frame .entry))) rect ⌝ }
+{
+    relations::axis_code(rect.y1, rect.y2, frame[Y1], frame[Y2])
+}
+
+fn code_x(frame: &[u32; FRAME_WORDS], rect: Rect) -> usize
+    requires { ⌜ T (valid (referenceOf (now frame))) ⌝ }
+    ensures { λ r. ⌜ r ≡ codeX (referenceOf (now (frame .entry))) rect ⌝ }
+{
+    relations::axis_code(rect.x1, rect.x2, frame[X1], frame[X2])
+}
+
+// Whether a piece's rectangle is admitted. Where the window does not decide most fail on y, where their row is empty.
+fn admits(rows: &[u16; CODES], frame: &[u32; FRAME_WORDS], whole: bool, rect: Rect) -> bool
+    requires { ⌜ Known (now frame) whole (admitsBy (now rows)) ⌝ }
+    ensures { λ r. ⌜ r ≡ admitsBy (now (rows .entry)) (referenceOf (now (frame .entry))) rect ⌝ }
+{
+    if is_beyond(frame, rect) {
         return false;
     }
-    let q = reference.rect;
-    let i = relations::axis_code(rect.y1, rect.y2, q.y1, q.y2);
+    if whole {
+        return true;
+    }
+    let i = code_y(frame, rect);
     if rows[i - 1] == 0 {
         return false;
     }
-    let j = relations::axis_code(rect.x1, rect.x2, q.x1, q.x2);
+    let j = code_x(frame, rect);
     relations::leaf_test(rows, i, j)
 }
 
 // Whether a page's rectangle may hold an admitted one; y first, as above.
-fn opens(below: &[u16; CODES], masks: &[u16; CODES], reference: Reference, rect: Rect) -> bool
-    requires { ⌜ (now masks ≡ nodeMasks) × Passing reference (opensBy (now below) (reference .rect)) ⌝ }
-    ensures { λ r. ⌜ r ≡ opensBy (now (below .entry)) (reference .rect) rect ⌝ }
+fn opens(
+    below: &[u16; CODES],
+    masks: &[u16; CODES],
+    frame: &[u32; FRAME_WORDS],
+    whole: bool,
+    rect: Rect,
+) -> bool
+    requires { ⌜ Known (now frame) whole (opensBy (now below)) × (now masks ≡ nodeMasks) ⌝ }
+    ensures { λ r. ⌜ r ≡ opensBy (now (below .entry)) (referenceOf (now (frame .entry))) rect ⌝ }
 {
-    if is_passed(reference, rect) {
+    if is_beyond(frame, rect) {
         return false;
     }
-    let q = reference.rect;
-    let cy = relations::axis_code(rect.y1, rect.y2, q.y1, q.y2);
+    if whole {
+        return true;
+    }
+    let cy = code_y(frame, rect);
     if below[cy - 1] == 0 {
         return false;
     }
-    let cx = relations::axis_code(rect.x1, rect.x2, q.x1, q.x2);
+    let cx = code_x(frame, rect);
     relations::page_test(below, masks, cy, cx)
 }
 
@@ -149,59 +215,61 @@ fn mark(marks: &mut [u64; MARK_WORDS], r: u32)
 // Marks the admitted pieces of a leaf.
 fn mark_leaf(
     table: &[u32],
-    reference: Reference,
+    frame: &[u32; FRAME_WORDS],
+    whole: bool,
     rows: &[u16; CODES],
     p: usize,
     marks: &mut [u64; MARK_WORDS],
 )
-    requires { ⌜ SoundPage (now table) p 0 × Passing reference (admitsBy (now rows) (reference .rect)) ⌝ }
-    ensures { λ _. ⌜ now (marks .exit) ≡ marked (now (marks .entry)) (concatMap (admittedR (admitsBy (now (rows .entry)) (reference .rect))) (page (tableIn (now (table .entry))) p .entries)) ⌝ }
+    requires { ⌜ SoundPage (now table) p 0 × Known (now frame) whole (admitsBy (now rows)) ⌝ }
+    ensures { λ _. ⌜ now (marks .exit) ≡ marked (now (marks .entry)) (concatMap (admittedR (admitsBy (now (rows .entry)) (referenceOf (now (frame .entry))))) (page (tableIn (now (table .entry))) p .entries)) ⌝ }
 {
     let n = size_of(table, p, 0);
     for i in 0..n {
         let e = entry_at(table, p, 0, i);
-        if admits(rows, reference, e.rect) {
+        if admits(rows, frame, whole, e.rect) {
             mark(marks, e.r);
         }
     }
 }
 
-// Opens page p and the pages under it that may hold an admitted piece, marks the admitted pieces met, and adds the
-// number of opened pages to `opened`.
+// Opens page p and the pages under it that may hold an admitted piece, marks the admitted pieces met, and gives the number of
+// opened pages. The table is lent by a reference to its slice, which a call passes in a register, and what changes from call
+// to call comes first, for the same reason.
 fn walk(
-    table: &[u32],
-    reference: Reference,
-    rows: &[u16; CODES],
-    below: &[u16; CODES],
-    masks: &[u16; CODES],
+    table: &&[u32],
+    frame: &[u32; FRAME_WORDS],
     level: usize,
     p: usize,
     marks: &mut [u64; MARK_WORDS],
-    opened: u32,
+    whole: bool,
+    rows: &[u16; CODES],
+    below: &[u16; CODES],
+    masks: &[u16; CODES],
 ) -> u32
-    requires { ⌜ SoundPage (now table) p level × (opened + length (openedUnder (opensBy (now below) (reference .rect)) (tableIn (now table) .pages) level p) ≤ PAGES) × (now masks ≡ nodeMasks) × Passing reference (opensBy (now below) (reference .rect)) × Passing reference (admitsBy (now rows) (reference .rect)) ⌝ }
-    ensures { λ r. ⌜ (r ≡ opened + length (openedUnder (opensBy (now (below .entry)) (reference .rect)) (tableIn (now (table .entry)) .pages) level p))
-        × (now (marks .exit) ≡ marked (now (marks .entry)) (hitsUnder (admitsBy (now (rows .entry)) (reference .rect)) (opensBy (now (below .entry)) (reference .rect)) (tableIn (now (table .entry)) .pages) level p)) ⌝ }
+    requires { ⌜ SoundPage (now (now table)) p level × (length (openedUnder (opensBy (now below) (referenceOf (now frame))) (tableIn (now (now table)) .pages) level p) ≤ PAGES) × Known (now frame) whole (admitsBy (now rows)) × Known (now frame) whole (opensBy (now below)) × (now masks ≡ nodeMasks) ⌝ }
+    ensures { λ r. ⌜ (r ≡ length (openedUnder (opensBy (now (below .entry)) (referenceOf (now (frame .entry)))) (tableIn (now (now (table .entry))) .pages) level p))
+        × (now (marks .exit) ≡ marked (now (marks .entry)) (hitsUnder (admitsBy (now (rows .entry)) (referenceOf (now (frame .entry)))) (opensBy (now (below .entry)) (referenceOf (now (frame .entry)))) (tableIn (now (now (table .entry))) .pages) level p)) ⌝ }
 {
-    let mut count: u32 = opened + 1;
     if level == 0 {
-        mark_leaf(table, reference, rows, p, marks);
-        return count;
+        mark_leaf(*table, frame, whole, rows, p, marks);
+        return 1;
     }
-    let n = size_of(table, p, level);
+    let mut count: u32 = 1;
+    let n = size_of(*table, p, level);
     for i in 0..n {
-        let e = entry_at(table, p, level, i);
-        if opens(below, masks, reference, e.rect) {
-            count = walk(
+        let e = entry_at(*table, p, level, i);
+        if opens(below, masks, frame, whole, e.rect) {
+            count += walk(
                 table,
-                reference,
-                rows,
-                below,
-                masks,
+                frame,
                 level - 1,
                 to_index(e.r),
                 marks,
-                count,
+                whole,
+                rows,
+                below,
+                masks,
             );
         }
     }
@@ -211,7 +279,8 @@ fn walk(
 // Opens page p and the pages under it that may hold an admitted piece, and writes their numbers from place `at` on.
 fn open_walk(
     table: &[u32],
-    reference: Reference,
+    frame: &[u32; FRAME_WORDS],
+    whole: bool,
     below: &[u16; CODES],
     masks: &[u16; CODES],
     level: usize,
@@ -219,9 +288,9 @@ fn open_walk(
     answer: &mut [u16],
     at: usize,
 ) -> usize
-    requires { ⌜ SoundPage (now table) p level × (at + length (openedUnder (opensBy (now below) (reference .rect)) (tableIn (now table) .pages) level p) ≤ length (now answer)) × (now masks ≡ nodeMasks) × Passing reference (opensBy (now below) (reference .rect)) ⌝ }
-    ensures { λ r. ⌜ (r ≡ at + length (openedUnder (opensBy (now (below .entry)) (reference .rect)) (tableIn (now (table .entry)) .pages) level p))
-        × (now (answer .exit) ≡ sets (now (answer .entry)) at (openedUnder (opensBy (now (below .entry)) (reference .rect)) (tableIn (now (table .entry)) .pages) level p)) ⌝ }
+    requires { ⌜ SoundPage (now table) p level × (at + length (openedUnder (opensBy (now below) (referenceOf (now frame))) (tableIn (now table) .pages) level p) ≤ length (now answer)) × Known (now frame) whole (opensBy (now below)) × (now masks ≡ nodeMasks) ⌝ }
+    ensures { λ r. ⌜ (r ≡ at + length (openedUnder (opensBy (now (below .entry)) (referenceOf (now (frame .entry)))) (tableIn (now (table .entry)) .pages) level p))
+        × (now (answer .exit) ≡ sets (now (answer .entry)) at (openedUnder (opensBy (now (below .entry)) (referenceOf (now (frame .entry)))) (tableIn (now (table .entry)) .pages) level p)) ⌝ }
 {
     answer[at] = p as u16;
     let mut next: usize = at + 1;
@@ -231,10 +300,11 @@ fn open_walk(
     let n = size_of(table, p, level);
     for i in 0..n {
         let e = entry_at(table, p, level, i);
-        if opens(below, masks, reference, e.rect) {
+        if opens(below, masks, frame, whole, e.rect) {
             next = open_walk(
                 table,
-                reference,
+                frame,
+                whole,
                 below,
                 masks,
                 level - 1,
@@ -298,13 +368,21 @@ fn search(table: &[u32], reference: Rect, rows: &[u16; CODES], marks: &mut [u64;
 {
     let below = relations::joined(rows);
     let masks = relations::node_masks();
-    let q = Reference {
-        rect: reference,
-        near: relations::is_near(&below, &masks),
-    };
+    let frame = framed(reference, &below, &masks);
+    let whole = relations::is_overlap(rows, &below, &masks);
     let root = root_of(table);
     let level = level_of(table, root);
-    walk(table, q, rows, &below, &masks, level, root, marks, 0)
+    walk(
+        &table,
+        &frame,
+        level,
+        root,
+        marks,
+        whole,
+        rows,
+        &below,
+        &masks,
+    )
 }
 
 // Writes the opened pages, each page before its children.
@@ -315,13 +393,11 @@ fn list_opened(table: &[u32], reference: Rect, rows: &[u16; CODES], answer: &mut
 {
     let below = relations::joined(rows);
     let masks = relations::node_masks();
-    let q = Reference {
-        rect: reference,
-        near: relations::is_near(&below, &masks),
-    };
+    let frame = framed(reference, &below, &masks);
+    let whole = relations::is_overlap(rows, &below, &masks);
     let root = root_of(table);
     let level = level_of(table, root);
-    open_walk(table, q, &below, &masks, level, root, answer, 0)
+    open_walk(table, &frame, whole, &below, &masks, level, root, answer, 0)
 }
 
 // The refusal of a call on a sound table, where the clauses have the refusal `clauses`, the answer slice has `size` words

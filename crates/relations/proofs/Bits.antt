@@ -1,9 +1,9 @@
 -- Laws of `bit`, `packed`, `total`, `someBelow` and `listed`.
-use mathlib.Core.Bool.{Bool, true, false, _&&_, _||_, false≢true}
+use mathlib.Core.Bool.{Bool, true, false, _&&_, _||_, or-false, false≢true}
 use mathlib.Core.List.{List}
 use mathlib.Core.Path.{_≡_, refl, sym, ap, ap₂, _∙_}
-use Prim.Native.Nat.{ℕ, zero, suc, _+_, _-_, _/_, _%_, _^_, _≤_, _<_}
-use native.Mathlib.Nat.{not-suc-le-zero, pow-suc, div-one, zero-div}
+use Prim.Native.Nat.{ℕ, zero, suc, _+_, _/_, _%_, _^_, _≤_, _<_}
+use native.Mathlib.Nat.{not-suc-le-zero, add-zero, add-suc, pow-suc, div-one, zero-div}
 use native.Mathlib.Numerals.{one-add}
 use native.Mathlib.Omega.{arith}
 use lib.Arith.{lt-one}
@@ -29,14 +29,6 @@ bit-half n k = ap (λ (x : ℕ). eqb (x % 2) 1) (sym (shr-shr n 1 k ∙ ap (λ (
 pub bit-none : (k : ℕ) → bit 0 k ≡ false
 unfolding bit
 bit-none k = ap (λ (x : ℕ). eqb (x % 2) 1) (zero-div (2 ^ k))
-
--- where nothing is left from bit t on, no further bit is one
-pub bit-above : (n t u : ℕ) → n / 2 ^ t ≡ 0 → t ≤ u → bit n u ≡ false
-unfolding bit
-bit-above n t u e l =
-    let d : t + (u - t) ≡ u = omega arith in
-    ap (λ (x : ℕ). eqb (n / 2 ^ x % 2) 1) (sym d)
-    ∙ ap (λ (x : ℕ). eqb (x % 2) 1) (sym (shr-shr n t (u - t)) ∙ ap (λ (x : ℕ). x / 2 ^ (u - t)) e ∙ zero-div (2 ^ (u - t)))
 
 digit-of : (r : ℕ) → r < 2 → r ≡ digit (eqb r 1)
 digit-of zero h = refl
@@ -145,6 +137,13 @@ pub none-below : (f : ℕ → Bool) (n : ℕ) → ((k : ℕ) → k < n → f k �
 unfolding someBelow
 none-below f zero e = refl
 none-below f (suc n) e = ap₂ (λ (a b : Bool). a || b) (none-below f n (λ k h. e k (omega arith))) (e n (omega arith))
+
+-- a test that passes nowhere from n on
+pub none-above : (f : ℕ → Bool) (n m : ℕ) → ((k : ℕ) → n ≤ k → f k ≡ false) → someBelow f (n + m) ≡ someBelow f n
+unfolding someBelow
+none-above f n zero e = ap (someBelow f) (add-zero n)
+none-above f n (suc m) e =
+    ap (someBelow f) (add-suc n m) ∙ ap₂ (λ (a b : Bool). a || b) (none-above f n m e) (e (n + m) (omega arith)) ∙ or-false (someBelow f n)
 
 pub some-at : (f : ℕ → Bool) (n k : ℕ) → k < n → f k ≡ true → someBelow f n ≡ true
 unfolding someBelow

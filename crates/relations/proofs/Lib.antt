@@ -1,7 +1,8 @@
 -- The laws. Callers cite `Sides` (codes), `Turned`, `Quarter` and `Pages` (the quarter-unit rule, the page and leaf tests),
--- `Answer` (refusals and rows of an accepted query).
+-- `Answer` (refusals and rows of an accepted query), `Lowest` (the ones of a word, one after the other).
 pub mod Tests
 pub mod Bits
+pub mod Lowest
 pub mod Filled
 pub mod Sides
 pub mod Zones
@@ -12,4 +13,5 @@ pub mod Rows
 pub mod Answer
 pub mod Pages
 pub mod Near
+pub mod Whole
 pub mod Examples

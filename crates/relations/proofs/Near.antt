@@ -1,4 +1,4 @@
--- Where nothing beyond the reference can be admitted, what lies beyond it on an axis passes neither test.
+-- Where nothing beyond the reference can be admitted, what lies beyond it on an axis passes neither test; likewise for what does not overlap it.
 use mathlib.Core.Bool.{Bool, true, false, not, _&&_, and-false}
 use mathlib.Core.List.{List}
 use mathlib.Core.Logic.{_⊎_, inl, inr}
@@ -11,10 +11,10 @@ use borrow.Author.Tests.{not-true}
 use Rattle.relations.specs.Sets.{bit, someBelow}
 use Rattle.relations.specs.Axis.{CODES, IsCode, code}
 use Rattle.relations.specs.Nodes.{inside, mayHold}
-use Rattle.relations.specs.Steps.{AROUND, joinedOf, pageTest, openAt, nearBy, rowsHave}
+use Rattle.relations.specs.Steps.{AROUND, joinedOf, pageTest, openAt, nearBy, innerBy, rowsHave}
 use Rattle.relations.proofs.Tests.{allBelow, all-at, none-at, and-left, and-right, or-left, or-right}
 use Rattle.relations.proofs.Bits.{none-below}
-use Rattle.relations.proofs.Sides.{Side, below, at, above, sided, side-above, side-below, code-above, code-below, code-suc}
+use Rattle.relations.proofs.Sides.{Side, below, at, above, sided, side-below, code-above, code-below, code-suc}
 use Rattle.relations.proofs.Pages.{page-test}
 
 -- every code can stand inside a page around, and in a page of its own code
@@ -67,45 +67,69 @@ module _ (rows : List ℕ) where
       own c k = sym (ap (λ d. inside d (suc (c - 1))) (code-suc c k)) ∙ all-at (λ h. inside (suc h) (suc h)) CODES (c - 1) own-test (omega arith)
 
   -- a code that is not open on either axis shuts the page, whatever its other code
-  shut-y : (c d : ℕ) → IsCode c → openAt (joinedOf rows) c ≡ false → pageTest (joinedOf rows) c d ≡ false
-  unfolding openAt
-  shut-y c d ic s = page-test rows c d ic ∙ less-x c d (sym (page-test rows c AROUND ic) ∙ or-left _ _ s)
+  pub record Shut (c : ℕ) : Type 0 where
+    pub is : IsCode c
+    pub closed : openAt (joinedOf rows) c ≡ false
 
-  shut-x : (c d : ℕ) → IsCode d → openAt (joinedOf rows) c ≡ false → pageTest (joinedOf rows) d c ≡ false
+  pub shut-y : {c : ℕ} → Shut c → (d : ℕ) → pageTest (joinedOf rows) c d ≡ false
   unfolding openAt
-  shut-x c d id s =
+  shut-y {c = c} s d = page-test rows c d (s .is) ∙ less-x c d (sym (page-test rows c AROUND (s .is)) ∙ or-left _ _ (s .closed))
+
+  pub shut-x : {c : ℕ} → Shut c → (d : ℕ) → IsCode d → pageTest (joinedOf rows) d c ≡ false
+  unfolding openAt
+  shut-x {c = c} s d id =
       page-test rows d c id
-      ∙ less-y d c (sym (page-test rows AROUND c (record { low = omega arith; high = omega arith })) ∙ or-right (pageTest (joinedOf rows) c AROUND) _ s)
+      ∙ less-y d c (sym (page-test rows AROUND c (record { low = omega arith; high = omega arith })) ∙ or-right (pageTest (joinedOf rows) c AROUND) _ (s .closed))
 
--- the codes of an interval beyond the reference
+-- the codes of an interval beyond the reference, and of one that does not overlap it
 pub data Apart : ℕ → Type 0 where
   after : Apart 1
   touching : Apart 2
   before : Apart 13
 
+pub data Outside : ℕ → Type 0 where
+  beyond : {c : ℕ} → Apart c → Outside c
+  met : Outside 12
+
+from-end : (p1 p2 q1 q2 : ℕ) → q2 ≤ p1 → Apart (code p1 p2 q1 q2)
+from-end p1 p2 q1 q2 l = subst Apart (code-above p1 p2 q1 q2 l) (go (sided p1 q2))
+  where
+    go : {s : ℕ} → Side p1 q2 s → Apart (1 + s)
+    go (below m) = absurd (omega arith)
+    go (at m) = touching
+    go (above m) = after
+
+pub outside : (p1 p2 q1 q2 : ℕ) → q1 < q2 → (q2 ≤ p1) ⊎ (p2 ≤ q1) → Outside (code p1 p2 q1 q2)
+outside p1 p2 q1 q2 o (inl h) = beyond (from-end p1 p2 q1 q2 h)
+outside p1 p2 q1 q2 o (inr h) = go (decLt p1 q2)
+  where
+    low : {s : ℕ} → Side p2 q1 s → Outside (11 + s)
+    low (below m) = beyond before
+    low (at m) = met
+    low (above m) = absurd (omega arith)
+
+    go : Dec (p1 < q2) → Outside (code p1 p2 q1 q2)
+    go (yes l) = subst Outside (code-below p1 p2 q1 q2 o l (omega arith)) (low (sided p2 q1))
+    go (no l) = beyond (from-end p1 p2 q1 q2 (omega arith))
+
 pub apart : (p1 p2 q1 q2 : ℕ) → q1 < q2 → (q2 < p1) ⊎ (p2 < q1) → Apart (code p1 p2 q1 q2)
-apart p1 p2 q1 q2 o (inl h) = subst Apart (ap (λ (s : ℕ). 1 + s) (sym (side-above p1 q2 h)) ∙ code-above p1 p2 q1 q2 (omega arith)) after
+apart p1 p2 q1 q2 o (inl h) = from-end p1 p2 q1 q2 (omega arith)
 apart p1 p2 q1 q2 o (inr h) = go (decLt p1 q2)
   where
-    high : {s : ℕ} → q2 ≤ p1 → Side p1 q2 s → Apart (1 + s)
-    high l (below m) = absurd (omega arith)
-    high l (at m) = touching
-    high l (above m) = after
-
     go : Dec (p1 < q2) → Apart (code p1 p2 q1 q2)
-    go (yes l) = subst Apart (ap (λ (s : ℕ). 11 + s) (sym (side-below p2 q1 h)) ∙ code-below p1 p2 q1 q2 l (omega arith) (omega arith)) before
-    go (no l) = subst Apart (code-above p1 p2 q1 q2 (omega arith)) (high (omega arith) (sided p1 q2))
+    go (yes l) = subst Apart (ap (λ (s : ℕ). 11 + s) (sym (side-below p2 q1 h)) ∙ code-below p1 p2 q1 q2 o l (omega arith)) before
+    go (no l) = from-end p1 p2 q1 q2 (omega arith)
 
--- what lies beyond the reference on an axis passes no page test where `nearBy` holds
-module _ (rows : List ℕ) (near : nearBy (joinedOf rows) ≡ true) where
-  shut : {c : ℕ} → Apart c → IsCode c × (openAt (joinedOf rows) c ≡ false)
+module _ (rows : List ℕ) where
+  -- what lies beyond the reference on an axis is shut out where `nearBy` holds
+  pub near-shut : nearBy (joinedOf rows) ≡ true → {c : ℕ} → Apart c → Shut rows c
   unfolding nearBy
-  shut after = (record { low = omega arith; high = omega arith }, not-true _ (and-left _ _ near))
-  shut touching = (record { low = omega arith; high = omega arith }, not-true _ (and-left _ _ (and-right (not (openAt (joinedOf rows) 1)) _ near)))
-  shut before = (record { low = omega arith; high = omega arith }, not-true _ (and-right (not (openAt (joinedOf rows) 2)) _ (and-right (not (openAt (joinedOf rows) 1)) _ near)))
+  near-shut n after = record { is = record { low = omega arith; high = omega arith }; closed = not-true _ (and-left _ _ n) }
+  near-shut n touching = record { is = record { low = omega arith; high = omega arith }; closed = not-true _ (and-left _ _ (and-right (not (openAt (joinedOf rows) 1)) _ n)) }
+  near-shut n before = record { is = record { low = omega arith; high = omega arith }; closed = not-true _ (and-right (not (openAt (joinedOf rows) 2)) _ (and-right (not (openAt (joinedOf rows) 1)) _ n)) }
 
-  pub near-y : {c : ℕ} → Apart c → (d : ℕ) → pageTest (joinedOf rows) c d ≡ false
-  near-y a d = shut-y rows _ d (shut a .0) (shut a .1)
-
-  pub near-x : {c : ℕ} → Apart c → (d : ℕ) → IsCode d → pageTest (joinedOf rows) d c ≡ false
-  near-x a d id = shut-x rows _ d id (shut a .1)
+  -- and what does not overlap it, where `innerBy` holds
+  pub inner-shut : innerBy (joinedOf rows) ≡ true → {c : ℕ} → Outside c → Shut rows c
+  unfolding innerBy
+  inner-shut n (beyond a) = near-shut (and-left _ _ n) a
+  inner-shut n met = record { is = record { low = omega arith; high = omega arith }; closed = not-true _ (and-right (nearBy (joinedOf rows)) _ n) }

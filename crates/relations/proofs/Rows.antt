@@ -1,22 +1,26 @@
 -- The thirteen rows of relations, clauses and queries: what each turn of the loops that gather them adds.
-use mathlib.Core.Bool.{Bool, true, false, _&&_, and-true, and-assoc, or-false}
+use mathlib.Core.Bool.{Bool, true, false, cond, _&&_, and-true, and-false, and-assoc, or-false}
 use mathlib.Core.List.{List, [], _∷_, _++_}
+use mathlib.Core.Logic.{_≢_}
 use mathlib.Core.Path.{_≡_, refl, sym, ap, ap₂, _∙_}
-use Prim.Native.Nat.{ℕ, zero, suc, _+_, _/_, _%_, _^_, _≤_, _<_}
-use native.Mathlib.Nat.{add-zero}
+use Prim.Native.Nat.{ℕ, zero, suc, _+_, _-_, _/_, _%_, _^_, _≤_, _<_}
+use native.Mathlib.Nat.{add-zero, zero-add, div-one}
 use native.Mathlib.Numerals.{add-one}
 use native.Mathlib.Omega.{arith}
 use lib.Bits.{bitAnd, bitOr, or-zero-r}
+use lib.Count.{trailingZeros}
 use lib.ListN.{length, getD, set, take, replicate}
+use lib.Pow.{shr-shr}
 use lib.Seq.{take-suc, take-all}
-use borrow.Author.Tests.{eq-eqb, ne-eqb}
+use borrow.Author.Tests.{eq-eqb, ne-eqb, le-ltb}
 use Rattle.relations.specs.declared.CodeSets.{CodeSets}
-use Rattle.relations.specs.Sets.{member, bit, packed, someBelow, listed}
+use Rattle.relations.specs.Sets.{member, bit, onesFrom, packed, someBelow, listed}
 use Rattle.relations.specs.Axis.{CODES}
 use Rattle.relations.specs.Relation.{RELATIONS, codesOf, inRelation, maskOf, setsOf}
 use Rattle.relations.specs.Query.{named, admits, rowSet, rowSets}
 use Rattle.relations.specs.Steps.{relationRow, namedRow, withRelation, cutTo}
-use Rattle.relations.proofs.Bits.{bit-above, bit-packed, packed-none, packed-same, packed-or, packed-and, listed-at, length-listed, listed-same}
+use Rattle.relations.proofs.Bits.{bit-zero, bit-packed, none-above, packed-none, packed-same, packed-or, packed-and, listed-at, length-listed, listed-same}
+use Rattle.relations.proofs.Lowest.{ones-none, lowestOne, lowest}
 use Rattle.relations.proofs.Filled.{filled, filled-at, filled-more, filled-skip}
 
 -- the test of the source
@@ -63,47 +67,81 @@ module _ (rows : List ℕ) (t h : ℕ) (s : CodeSets) (e : s ≡ setsOf t) (l : 
       filled-skip added rows CODES h
       (sym (ap (bitOr (getD rows h 0)) (row-empty t h l (ap (λ (x : CodeSets). bit (x .rows) h) (sym e) ∙ b)) ∙ or-zero-r (getD rows h 0)))
 
--- ---- a clause, as far as its relations below t
+-- ---- a clause, its relations one after the other
+
+unfoldable pub gathered : List ℕ → List ℕ → List ℕ
+gathered rows [] = rows
+gathered rows (t ∷ ts) = gathered (withRelation rows t) ts
+
+no-relation : (t i j : ℕ) → RELATIONS ≤ t → inRelation t i j ≡ false
+unfolding inRelation
+no-relation t i j l = simp (le-ltb t 8 (omega arith), le-ltb t RELATIONS l)
 
 module _ (clause : ℕ) where
+  -- as far as its relations below t
   upto : ℕ → ℕ → ℕ → Bool
   upto t h k = someBelow (λ u. bit clause u && inRelation u (suc h) (suc k)) t
 
   partRow : ℕ → ℕ → ℕ
   partRow t h = packed (upto t h) CODES
 
-  pub partRows : ℕ → List ℕ
+  partRows : ℕ → List ℕ
   partRows t = listed (partRow t) CODES
 
-  pub part-length : (t : ℕ) → length (partRows t) ≡ CODES
-  unfolding partRows
-  part-length t = length-listed (partRow t) CODES
-
-  pub part-none : replicate CODES 0 ≡ partRows 0
+  part-none : replicate CODES 0 ≡ partRows 0
   unfolding partRows partRow upto packed someBelow listed
   part-none = refl
 
-  pub part-take : (t : ℕ) → bit clause t ≡ true → withRelation (partRows t) t ≡ partRows (t + 1)
+  part-take : (t : ℕ) → bit clause t ≡ true → withRelation (partRows t) t ≡ partRows (suc t)
   unfolding partRows partRow upto someBelow withRelation relationRow
   part-take t e =
       listed-same _ _ CODES
       (λ h l. ap (λ (r : ℕ). bitOr r (packed (λ k. inRelation t (suc h) (suc k)) CODES)) (listed-at (partRow t) CODES h l)
       ∙ packed-or (upto t h) (λ k. inRelation t (suc h) (suc k)) CODES
-      ∙ packed-same _ _ CODES (λ k _. rw (add-one, e)))
+      ∙ packed-same _ _ CODES (λ k _. rw e))
 
-  pub part-skip : (t : ℕ) → bit clause t ≡ false → partRows t ≡ partRows (t + 1)
+  part-skip : (t : ℕ) → bit clause t ≡ false → partRows t ≡ partRows (suc t)
   unfolding partRows partRow upto someBelow
-  part-skip t e = listed-same _ _ CODES (λ h _. packed-same _ _ CODES (λ k _. rw (add-one, e, or-false)))
+  part-skip t e = listed-same _ _ CODES (λ h _. packed-same _ _ CODES (λ k _. rw (e, or-false)))
 
-  -- a clause that names no relation from t on
-  pub part-rest : (t n : ℕ) → clause / 2 ^ t ≡ 0 → partRows t ≡ partRows (t + n)
-  part-rest t zero e = ap partRows (sym (add-zero t))
-  part-rest t (suc n) e =
-      part-rest t n e ∙ part-skip (t + n) (bit-above clause t (t + n) e (omega arith)) ∙ ap partRows (omega arith)
+  part-turn : (t : ℕ) (ts : List ℕ) → gathered (partRows t) (cond (bit clause t) (t ∷ []) [] ++ ts) ≡ gathered (partRows (suc t)) ts
+  unfolding gathered
+  part-turn t ts = go (bit clause t) refl
+    where
+      go : (b : Bool) → bit clause t ≡ b → gathered (partRows t) (cond b (t ∷ []) [] ++ ts) ≡ gathered (partRows (suc t)) ts
+      go true e = ap (λ (r : List ℕ). gathered r ts) (part-take t e)
+      go false e = ap (λ (r : List ℕ). gathered r ts) (part-skip t e)
 
-  pub part-whole : partRows RELATIONS ≡ listed (λ h. namedRow clause (suc h)) CODES
+  -- its ones from place t on
+  part-ones : (k t : ℕ) → gathered (partRows t) (onesFrom t k (clause / 2 ^ t)) ≡ partRows (t + k)
+  unfolding onesFrom gathered bit
+  part-ones zero t = ap partRows (sym (add-zero t))
+  part-ones (suc k) t =
+      let low : bit (clause / 2 ^ t) 0 ≡ bit clause t = bit-zero (clause / 2 ^ t) in
+      let half : clause / 2 ^ t / 2 ≡ clause / 2 ^ suc t = shr-shr clause t 1 ∙ ap (λ (u : ℕ). clause / 2 ^ u) (add-one t) in
+      let e : suc t + k ≡ t + suc k = omega arith in
+      rw (low, half) (part-turn t _ ∙ part-ones k (suc t) ∙ ap partRows e)
+
+  -- all of them; those from place 40 on add nothing
+  pub all-gathered : gathered (replicate CODES 0) (onesFrom 0 64 clause) ≡ listed (λ h. namedRow clause (suc h)) CODES
   unfolding partRows partRow upto namedRow named
-  part-whole = refl
+  all-gathered =
+      ap₂ (λ (r : List ℕ) (n : ℕ). gathered r (onesFrom 0 64 n)) part-none (sym (div-one clause))
+      ∙ part-ones 64 0
+      ∙ listed-same _ _ CODES (λ h _. packed-same _ _ CODES (λ k _. none-above _ RELATIONS 24 (λ u l. rw (no-relation u (suc h) (suc k) l, and-false))))
+
+-- the lowest one first
+pub gather-lowest : (rows now : List ℕ) (n : ℕ) → n ≢ 0 → n < 2 ^ 64 → now ≡ withRelation rows (trailingZeros 64 n) → gathered now (onesFrom 0 64 (n - lowestOne n)) ≡ gathered rows (onesFrom 0 64 n)
+unfolding gathered
+gather-lowest rows now n z l e = rw (e, lowest n z l .first 0, zero-add)
+
+pub gather-end : (rows : List ℕ) (n : ℕ) → n ≡ 0 → rows ≡ gathered rows (onesFrom 0 64 n)
+unfolding gathered
+gather-end rows n z = rw (z, ones-none)
+
+pub with-length : (rows : List ℕ) (t : ℕ) → length (withRelation rows t) ≡ CODES
+unfolding withRelation
+with-length rows t = length-listed (λ h. bitOr (getD rows h 0) (relationRow t (suc h))) CODES
 
 -- as the source cuts row h
 pub cut-row : (rows : List ℕ) (clause h : ℕ) (now named : List ℕ) → h < CODES → named ≡ listed (λ k. namedRow clause (suc k)) CODES

@@ -2,7 +2,6 @@
 -- compared with the table for all of them by one computed test.
 use mathlib.Core.Bool.{Bool, true, false, cond, _&&_, and-false}
 use mathlib.Core.List.{List, [], _∷_}
-use mathlib.Core.Logic.{_⊎_, inl, inr}
 use mathlib.Core.Path.{_≡_, refl, sym, ap, ap₂, subst, subst⁻¹, _∙_}
 use Prim.Native.Nat.{ℕ, suc, _+_, _*_, _-_, _≤_, _<_}
 use native.Mathlib.Decide.{decLt}
@@ -220,24 +219,18 @@ module _ (p1 p2 q1 q2 : ℕ) where
       go (at l) = omega arith
       go (above l) = omega arith
 
-  pub code-below : p1 < q2 → p2 < q2 → p2 ≤ q1 → 11 + sideOf p2 q1 ≡ code p1 p2 q1 q2
+  pub code-below : q1 < q2 → p1 < q2 → p2 ≤ q1 → 11 + sideOf p2 q1 ≡ code p1 p2 q1 q2
   unfolding bySides
-  code-below h k l = sym (by-sides ∙ simp (side-below p1 q2 h, side-below p2 q2 k, lt-ltb 0 (sideOf p2 q1) (go (sided p2 q1))))
+  code-below q h l = sym (by-sides ∙ simp (side-below p1 q2 h, side-below p2 q2 (omega arith), lt-ltb 0 (sideOf p2 q1) (go (sided p2 q1))))
     where
       go : {s : ℕ} → Side p2 q1 s → 0 < s
       go (below m) = omega arith
       go (at m) = omega arith
       go (above m) = omega arith
 
-  pub code-over : p1 < q2 → (q2 ≤ p2) ⊎ (q1 < p2) → 3 + 3 * sideOf p2 q2 + sideOf p1 q1 ≡ code p1 p2 q1 q2
+  pub code-over : p1 < q2 → q1 < p2 → 3 + 3 * sideOf p2 q2 + sideOf p1 q1 ≡ code p1 p2 q1 q2
   unfolding bySides
-  code-over h (inl k) = sym (by-sides ∙ simp (side-below p1 q2 h, le-ltb 1 (sideOf p2 q2) (go (sided p2 q2))))
-    where
-      go : {s : ℕ} → Side p2 q2 s → s ≤ 1
-      go (below m) = omega arith
-      go (at m) = omega arith
-      go (above m) = omega arith
-  code-over h (inr k) = sym (by-sides ∙ simp (side-below p1 q2 h, side-above p2 q1 k, and-false))
+  code-over h k = sym (by-sides ∙ simp (side-below p1 q2 h, side-above p2 q1 k, and-false))
 
 -- for a caller of `axis_code`
 pub coded : (c p1 p2 q1 q2 : ℕ) → c ≡ code p1 p2 q1 q2 → IsCode c

@@ -1,6 +1,6 @@
 -- Sets of codes as lists and as the bits of a number; sums, tests and lists over 0 .. n - 1.
 use mathlib.Core.Bool.{Bool, false, cond, _||_}
-use mathlib.Core.List.{List, [], _∷_}
+use mathlib.Core.List.{List, [], _∷_, _++_}
 use Prim.Native.Nat.{ℕ, zero, suc, _+_, _-_, _*_, _/_, _%_, _^_}
 use lib.Dec.{eqb}
 
@@ -23,6 +23,11 @@ digit b = cond b 1 0
 -- bit k of n, bit 0 the lowest
 unfoldable pub bit : ℕ → ℕ → Bool
 bit n k = eqb (n / 2 ^ k % 2) 1
+
+-- the places of the ones among the lowest k bits of n, counted from b
+unfoldable pub onesFrom : ℕ → ℕ → ℕ → List ℕ
+onesFrom b zero n = []
+onesFrom b (suc k) n = cond (bit n 0) (b ∷ []) [] ++ onesFrom (suc b) k (n / 2)
 
 -- the number whose bit k, for k below n, is f k, and that has no other bit
 unfoldable pub packed : (ℕ → Bool) → ℕ → ℕ

@@ -3,7 +3,7 @@ use mathlib.Core.Bool.{Bool, not, cond, _&&_, _||_}
 use mathlib.Core.List.{List}
 use Prim.Native.Nat.{ℕ, zero, suc, _+_, _-_}
 use lib.Bits.{bitAnd, bitOr}
-use lib.Dec.{leb, ltb}
+use lib.Dec.{leb, ltb, eqb}
 use lib.ListN.{getD}
 use Rattle.relations.specs.Sets.{digit, bit, packed, someBelow, listed}
 use Rattle.relations.specs.Axis.{CODES}
@@ -59,6 +59,28 @@ openAt joined c = pageTest joined c AROUND || pageTest joined AROUND c
 -- nothing beyond the reference can be admitted: what lies there has code 1, 2 or 13 on some axis
 unfoldable pub nearBy : List ℕ → Bool
 nearBy joined = not (openAt joined 1) && (not (openAt joined 2) && not (openAt joined CODES))
+
+-- nothing is admitted that does not overlap the reference: beside those, what meets it has code 12
+unfoldable pub innerBy : List ℕ → Bool
+unfolding nearBy
+innerBy joined = nearBy joined && not (openAt joined 12)
+
+-- the codes 3 to 11, of intervals that overlap, as a number; what the rows of codes 3 to n + 3 have in common
+abbrev pub OVERLAPPING : ℕ
+OVERLAPPING = 2_044
+
+unfoldable pub shared : List ℕ → ℕ → ℕ
+shared rows zero = getD rows 2 0
+shared rows (suc n) = bitAnd (shared rows n) (getD rows (n + 3) 0)
+
+-- every configuration of overlapping rectangles is admitted
+unfoldable pub wholeBy : List ℕ → Bool
+wholeBy rows = eqb (bitAnd (shared rows 8) OVERLAPPING) OVERLAPPING
+
+-- what overlaps the reference is admitted, and nothing else
+unfoldable pub overlapBy : List ℕ → List ℕ → Bool
+unfolding innerBy wholeBy
+overlapBy rows joined = innerBy joined && wholeBy rows
 
 -- the leaf test on row sets: (i, j) is in them
 unfoldable pub rowsHave : List ℕ → ℕ → ℕ → Bool

@@ -7,7 +7,7 @@ ghost use Rattle.relations.specs.Sets.{total, listed};
 ghost use Rattle.relations.specs.Axis.{CODES, code, IsCode};
 ghost use Rattle.relations.specs.Relation.{setsOf};
 ghost use Rattle.relations.specs.Query.{refusalOf, admittedOf};
-ghost use Rattle.relations.specs.Steps.{sideOf, namedRow, withRelation, cutTo, joinedOf, nodeMasks, pageTest, openAt, nearBy, rowsHave};
+ghost use Rattle.relations.specs.Steps.{sideOf, namedRow, withRelation, cutTo, joinedOf, nodeMasks, pageTest, openAt, nearBy, innerBy, overlapBy, rowsHave};
 
 // The codes are 1 to 13.
 pub const CODES: usize = 13;
@@ -50,6 +50,9 @@ const ALONG_TURNED: [u16; 8] = [4096, 1024, 4096, 1024, 4096, 1024, 2048, 7168];
 
 const ACROSS_TURNED: [u16; 8] = [8191, 8191, 256, 256, 4096, 7168, 8191, 8191];
 
+// The codes 3 to 11, of intervals that overlap.
+const OVERLAPPING: u16 = 2_044;
+
 // The code of a page that reaches beyond the reference on both sides, in which every code can stand.
 const AROUND: usize = 5;
 
@@ -79,15 +82,14 @@ fn side(a: u32, b: u32) -> usize
 
 // The code of [p1, p2] against the reference [q1, q2].
 pub fn axis_code(p1: u32, p2: u32, q1: u32, q2: u32) -> usize
+    requires { ⌜ q1 < q2 ⌝ }
     ensures { λ r. ⌜ r ≡ code p1 p2 q1 q2 ⌝ }
 {
     if p1 >= q2 {
         return 1 + side(p1, q2);
     }
-    if p2 < q2 {
-        if p2 <= q1 {
-            return 11 + side(p2, q1);
-        }
+    if p2 <= q1 {
+        return 11 + side(p2, q1);
     }
     3 + 3 * side(p2, q2) + side(p1, q1)
 }
@@ -134,18 +136,16 @@ fn add_relation(rows: &mut [u16; CODES], t: usize)
     }
 }
 
-// The thirteen rows of what one clause names.
+// The thirteen rows of what one clause names. It goes from one set bit to the next, since most clauses name few relations.
 fn clause_rows(clause: u64) -> [u16; CODES]
     ensures { λ r. ⌜ r ≡ listed (λ (h : ℕ). namedRow clause (suc h)) CODES ⌝ }
 {
     let mut rows = [0u16; CODES];
-    for t in 0..RELATIONS {
-        if clause >> t == 0 {
-            return rows;
-        }
-        if (clause >> t) % 2 == 1 {
-            add_relation(&mut rows, t);
-        }
+    let mut rest: u64 = clause;
+    while rest != 0 {
+        let t = u64::trailing_zeros(rest);
+        add_relation(&mut rows, t as usize);
+        rest -= 1u64 << t;
     }
     rows
 }
@@ -292,6 +292,37 @@ pub fn is_near(below: &[u16; CODES], masks: &[u16; CODES]) -> bool
         return false;
     }
     !is_open(below, masks, CODES)
+}
+
+// Whether nothing is admitted that does not overlap the reference.
+pub fn is_inner(below: &[u16; CODES], masks: &[u16; CODES]) -> bool
+    requires { ⌜ now masks ≡ nodeMasks ⌝ }
+    ensures { λ r. ⌜ r ≡ innerBy (now (below .entry)) ⌝ }
+{
+    if !is_near(below, masks) {
+        return false;
+    }
+    !is_open(below, masks, 12)
+}
+
+// Whether what overlaps the reference is admitted, and nothing else, as for "overlap": a walk then needs no codes at all.
+pub fn is_overlap(rows: &[u16; CODES], below: &[u16; CODES], masks: &[u16; CODES]) -> bool
+    requires { ⌜ now masks ≡ nodeMasks ⌝ }
+    ensures { λ r. ⌜ r ≡ overlapBy (now (rows .entry)) (now (below .entry)) ⌝ }
+{
+    if !is_inner(below, masks) {
+        return false;
+    }
+    let shared = rows[2]
+        & rows[3]
+        & rows[4]
+        & rows[5]
+        & rows[6]
+        & rows[7]
+        & rows[8]
+        & rows[9]
+        & rows[10];
+    shared & OVERLAPPING == OVERLAPPING
 }
 
 // Whether configuration (i, j) is admitted, by the row sets.

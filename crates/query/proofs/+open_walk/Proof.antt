@@ -8,7 +8,7 @@ use mathlib.Core.Logic.{⊎-elim}
 use lib.ListN.{length, length-set}
 use lib.Seq.{sets, length-sets}
 use Rattle.pages.specs.Layout.{page, tableIn}
-use Rattle.query.specs.Steps.{opensBy}
+use Rattle.query.specs.Steps.{referenceOf, opensBy}
 use Rattle.query.proofs.Reading.{page-few, child-page, same-page}
 use Rattle.query.proofs.Walking.{Writing, opened-one, opened-leaf, child-room, writing-open, writing-shut, count-end, words-end}
 use borrow.Fn.Kinds.{In}
@@ -23,26 +23,26 @@ use Rattle.query.proofs.to_index.Reads as to-index-reads
 use Rattle.query.proofs.+open_walk.{statement}
 use Rattle.query.proofs.+open_walk.Tie.{close}
 
-abbrev μ-open-walk : Measures 4 open-walk-kinds.ps ℕ
-μ-open-walk κs a = a .1 .1 .1 .1 .0
+abbrev μ-open-walk : Measures 5 open-walk-kinds.ps ℕ
+μ-open-walk κs a = a .1 .1 .1 .1 .1 .0
 
-abbrev open-walk-at : ℕ → In 4 open-walk-kinds.ps
-open-walk-at t = and 4 open-walk-kinds.ps (is 4 open-walk-kinds.ps μ-open-walk t) open-walk.Pre
+abbrev open-walk-at : ℕ → In 5 open-walk-kinds.ps
+open-walk-at t = and 5 open-walk-kinds.ps (is 5 open-walk-kinds.ps μ-open-walk t) open-walk.Pre
 
-abbrev open-walk-below : ℕ → In 4 open-walk-kinds.ps
+abbrev open-walk-below : ℕ → In 5 open-walk-kinds.ps
 open-walk-below t =
-    and 4 open-walk-kinds.ps (falls 4 open-walk-kinds.ps _<_ μ-open-walk t) open-walk.Pre
+    and 5 open-walk-kinds.ps (falls 5 open-walk-kinds.ps _<_ μ-open-walk t) open-walk.Pre
 
 abbrev open-walk-cs : ℕ → open-walk-lts.Claims
 open-walk-cs t = (size-of-reads.Asked, size-of-reads.Learnt, entry-at-reads.Asked, entry-at-reads.Learnt, opens-reads.Asked, opens-reads.Learnt, to-index-reads.Asked, to-index-reads.Learnt, open-walk-below t, open-walk.Post)
 
 abbrev open-walk-Inv-loop : open-walk-lts.InvT-loop
-open-walk-Inv-loop table reference below masks level p answer₀ at next₀ n i₀ answer next i =
+open-walk-Inv-loop table frame whole below masks level p answer₀ at next₀ n i₀ answer next i =
     (n ≡ length (page (tableIn table) p .entries)) × (i ≤ n)
-    × Writing (opensBy below (reference .rect)) (tableIn table .pages) (level - 1) (page (tableIn table) p .entries) i (at + 1) next answer₀ answer
+    × Writing (opensBy below (referenceOf frame)) (tableIn table .pages) (level - 1) (page (tableIn table) p .entries) i (at + 1) next answer₀ answer
 
 abbrev open-walk-μ-loop : open-walk-lts.MeasureT-loop
-open-walk-μ-loop table reference below masks level p answer₀ at next₀ n i₀ answer next i = n - i
+open-walk-μ-loop table frame whole below masks level p answer₀ at next₀ n i₀ answer next i = n - i
 
 open-walk-cast-answer : (t : ℕ) → open-walk-lts.Need-cast-answer (open-walk-cs t) (open-walk-at t) open-walk.Post open-walk-Inv-loop open-walk-μ-loop
 open-walk-cast-answer t c = omega (arith, page-few _ _ _ (c .before .before .pre .1 .0))
@@ -54,13 +54,13 @@ open-walk-slice-write-answer : (t : ℕ) → open-walk-lts.Need-slice-write-answ
 open-walk-slice-write-answer t c =
     let g = c .before .before in
     let a = g .args in
-    omega (arith, g .pre .1 .1, opened-one (opensBy (a .below .now) (a .reference .rect)) (tableIn (a .table .now) .pages) (a .level) (a .p))
+    omega (arith, g .pre .1 .1, opened-one (opensBy (a .below .now) (referenceOf (a .frame .now))) (tableIn (a .table .now) .pages) (a .level) (a .p))
 
 open-walk-add-next : (t : ℕ) → open-walk-lts.Need-add-next (open-walk-cs t) (open-walk-at t) open-walk.Post open-walk-Inv-loop open-walk-μ-loop
 open-walk-add-next t c =
     let g = c .before .before in
     let a = g .args in
-    omega (arith, g .pre .1 .1, opened-one (opensBy (a .below .now) (a .reference .rect)) (tableIn (a .table .now) .pages) (a .level) (a .p))
+    omega (arith, g .pre .1 .1, opened-one (opensBy (a .below .now) (referenceOf (a .frame .now))) (tableIn (a .table .now) .pages) (a .level) (a .p))
 
 open-walk-same-length : (t : ℕ) → open-walk-lts.Need-same-length (open-walk-cs t) (open-walk-at t) open-walk.Post open-walk-Inv-loop open-walk-μ-loop
 open-walk-same-length t c = search needs
@@ -68,7 +68,7 @@ open-walk-same-length t c = search needs
 open-walk-returns : (t : ℕ) → open-walk-lts.Need-returns (open-walk-cs t) (open-walk-at t) open-walk.Post open-walk-Inv-loop open-walk-μ-loop
 open-walk-returns t c =
     let a = c .before .before .before .args in
-    let e = opened-leaf (opensBy (a .below .now) (a .reference .rect)) (tableIn (a .table .now) .pages) (a .level) (a .p) (c .if1 .taken) in
+    let e = opened-leaf (opensBy (a .below .now) (referenceOf (a .frame .now))) (tableIn (a .table .now) .pages) (a .level) (a .p) (c .if1 .taken) in
     (omega (arith, ap length e), ap (sets (a .answer .now) (a .at)) (sym e))
 
 open-walk-size-of-requires : (t : ℕ) → open-walk-lts.Need-size-of-requires (open-walk-cs t) (open-walk-at t) open-walk.Post open-walk-Inv-loop open-walk-μ-loop
@@ -106,7 +106,7 @@ open-walk-open-walk-requires t c κs =
       omega arith,
       (
         same-page _ _ _ _ (c .before .to-index .ensures ∙ ap (λ x. x .r) (e .ensures)) (child-page _ _ _ (g .pre .1 .0) (l .i) z il),
-        rw k (child-room (opensBy (a .below .now) (a .reference .rect)) (tableIn (a .table .now) .pages) (a .level) (a .p) (l .i) (e .result) _ (c .before .to-index .ensures) (a .at) (l .next) _ z il (e .ensures) y (l .inv .2 .0) (g .pre .1 .1)),
+        rw k (child-room (opensBy (a .below .now) (referenceOf (a .frame .now))) (tableIn (a .table .now) .pages) (a .level) (a .p) (l .i) (e .result) _ (c .before .to-index .ensures) (a .at) (l .next) _ z il (e .ensures) y (l .inv .2 .0) (g .pre .1 .1)),
         g .pre .1 .2,
         g .pre .1 .3,
       ),
@@ -129,8 +129,8 @@ open-walk-loop-again t c =
       l .inv .0,
       omega arith,
       ⊎-elim
-          (λ w. let u = writing-open (opensBy (a .below .now) (a .reference .rect)) (tableIn (a .table .now) .pages) (a .level - 1) _ (l .i) (e .result) il (e .ensures) (a .at + 1) (l .next) _ (w .1 .ensures) _ (l .answer) _ (w .3 .result) (y ∙ w .0 .taken) (l .inv .2) (w .3 .ensures) in (w .7 ∙ u .0, w .6 ∙ u .1))
-          (λ w. let u = writing-shut (opensBy (a .below .now) (a .reference .rect)) (tableIn (a .table .now) .pages) (a .level - 1) _ (l .i) (e .result) il (e .ensures) (a .at + 1) (l .next) _ (l .answer) (y ∙ w .0 .left) (l .inv .2) in (w .2 ∙ u .0, w .1 ∙ u .1))
+          (λ w. let u = writing-open (opensBy (a .below .now) (referenceOf (a .frame .now))) (tableIn (a .table .now) .pages) (a .level - 1) _ (l .i) (e .result) il (e .ensures) (a .at + 1) (l .next) _ (w .1 .ensures) _ (l .answer) _ (w .3 .result) (y ∙ w .0 .taken) (l .inv .2) (w .3 .ensures) in (w .7 ∙ u .0, w .6 ∙ u .1))
+          (λ w. let u = writing-shut (opensBy (a .below .now) (referenceOf (a .frame .now))) (tableIn (a .table .now) .pages) (a .level - 1) _ (l .i) (e .result) il (e .ensures) (a .at + 1) (l .next) _ (l .answer) (y ∙ w .0 .left) (l .inv .2) in (w .2 ∙ u .0, w .1 ∙ u .1))
           (c .if2 .came),
     )
 
@@ -143,8 +143,8 @@ open-walk-returns-2 t c =
     let l = c .before .loop in
     let z = c .before .before .before .if1 .left in
     let il : length (page (tableIn (a .table .now)) (a .p) .entries) ≤ l .i = omega arith in (
-      count-end (opensBy (a .below .now) (a .reference .rect)) (tableIn (a .table .now) .pages) (a .level) (a .p) (l .i) (a .at) (l .next) z il (l .inv .2 .0),
-      words-end (opensBy (a .below .now) (a .reference .rect)) (tableIn (a .table .now) .pages) (a .level) (a .p) (l .i) (a .at) (a .answer .now) (l .answer) z il (l .inv .2 .1),
+      count-end (opensBy (a .below .now) (referenceOf (a .frame .now))) (tableIn (a .table .now) .pages) (a .level) (a .p) (l .i) (a .at) (l .next) z il (l .inv .2 .0),
+      words-end (opensBy (a .below .now) (referenceOf (a .frame .now))) (tableIn (a .table .now) .pages) (a .level) (a .p) (l .i) (a .at) (a .answer .now) (l .answer) z il (l .inv .2 .1),
     )
 
 pub +open-walk-spec : {M : Type 1} → statement M

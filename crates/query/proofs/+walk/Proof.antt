@@ -6,8 +6,9 @@ use native.Mathlib.Omega.{arith}
 use mathlib.Core.Path.{_≡_, refl, sym, ap, _∙_}
 use mathlib.Core.Logic.{⊎-elim}
 use lib.ListN.{length}
+use Rattle.pages.specs.Sizes.{PAGES}
 use Rattle.pages.specs.Layout.{page, tableIn}
-use Rattle.query.specs.Steps.{admitsBy, opensBy, marked}
+use Rattle.query.specs.Steps.{referenceOf, admitsBy, opensBy, marked}
 use Rattle.query.proofs.Reading.{leaf-page, child-page, same-page}
 use Rattle.query.proofs.Walking.{Marking, opened-one, opened-leaf, hits-leaf, child-room, marking-open, marking-shut, count-end, marks-end}
 use borrow.Fn.Kinds.{In}
@@ -23,41 +24,36 @@ use Rattle.query.proofs.to_index.Reads as to-index-reads
 use Rattle.query.proofs.+walk.{statement}
 use Rattle.query.proofs.+walk.Tie.{close}
 
-abbrev μ-walk : Measures 5 walk-kinds.ps ℕ
-μ-walk κs a = a .1 .1 .1 .1 .1 .0
+abbrev μ-walk : Measures 7 walk-kinds.ps ℕ
+μ-walk κs a = a .1 .1 .0
 
-abbrev walk-at : ℕ → In 5 walk-kinds.ps
-walk-at t = and 5 walk-kinds.ps (is 5 walk-kinds.ps μ-walk t) walk.Pre
+abbrev walk-at : ℕ → In 7 walk-kinds.ps
+walk-at t = and 7 walk-kinds.ps (is 7 walk-kinds.ps μ-walk t) walk.Pre
 
-abbrev walk-below : ℕ → In 5 walk-kinds.ps
-walk-below t = and 5 walk-kinds.ps (falls 5 walk-kinds.ps _<_ μ-walk t) walk.Pre
+abbrev walk-below : ℕ → In 7 walk-kinds.ps
+walk-below t = and 7 walk-kinds.ps (falls 7 walk-kinds.ps _<_ μ-walk t) walk.Pre
 
 abbrev walk-cs : ℕ → walk-lts.Claims
 walk-cs t = (mark-leaf-reads.Asked, mark-leaf-reads.Learnt, size-of-reads.Asked, size-of-reads.Learnt, entry-at-reads.Asked, entry-at-reads.Learnt, opens-reads.Asked, opens-reads.Learnt, to-index-reads.Asked, to-index-reads.Learnt, walk-below t, walk.Post)
 
 abbrev walk-Inv-loop : walk-lts.InvT-loop
-walk-Inv-loop table reference rows below masks level p marks₀ opened count₀ n i₀ marks count i =
-    (n ≡ length (page (tableIn table) p .entries)) × (i ≤ n)
-    × Marking (admitsBy rows (reference .rect)) (opensBy below (reference .rect)) (tableIn table .pages) (level - 1) (page (tableIn table) p .entries) i (opened + 1) count marks₀ marks
+walk-Inv-loop table frame level p marks₀ whole rows below masks count₀ n i₀ marks count i =
+    (n ≡ length (page (tableIn (table .now)) p .entries)) × (i ≤ n)
+    × Marking (admitsBy rows (referenceOf frame)) (opensBy below (referenceOf frame)) (tableIn (table .now) .pages) (level - 1) (page (tableIn (table .now)) p .entries) i 1 count marks₀ marks
 
 abbrev walk-μ-loop : walk-lts.MeasureT-loop
-walk-μ-loop table reference rows below masks level p marks₀ opened count₀ n i₀ marks count i = n - i
-
-walk-add-count : (t : ℕ) → walk-lts.Need-add-count (walk-cs t) (walk-at t) walk.Post walk-Inv-loop walk-μ-loop
-walk-add-count t c =
-    let a = c .before .args in
-    omega (arith, opened-one (opensBy (a .below .now) (a .reference .rect)) (tableIn (a .table .now) .pages) (a .level) (a .p))
+walk-μ-loop table frame level p marks₀ whole rows below masks count₀ n i₀ marks count i = n - i
 
 walk-mark-leaf-requires : (t : ℕ) → walk-lts.Need-mark-leaf-requires (walk-cs t) (walk-at t) walk.Post walk-Inv-loop walk-μ-loop
 walk-mark-leaf-requires t c κs =
     let g = c .before .before .before .pre .1 in
-    (leaf-page _ _ _ (g .0) (c .before .if1 .taken), g .4)
+    (leaf-page _ _ _ (g .0) (c .before .before .if1 .taken), g .2)
 
 walk-returns : (t : ℕ) → walk-lts.Need-returns (walk-cs t) (walk-at t) walk.Post walk-Inv-loop walk-μ-loop
 walk-returns t c =
     let a = c .before .before .before .before .args in
-    let z = c .before .before .if1 .taken in (
-      omega (arith, ap length (opened-leaf (opensBy (a .below .now) (a .reference .rect)) (tableIn (a .table .now) .pages) (a .level) (a .p) z)),
+    let z = c .before .before .before .if1 .taken in (
+      sym (ap length (opened-leaf (opensBy (a .below .now) (referenceOf (a .frame .now))) (tableIn (a .table .now .now) .pages) (a .level) (a .p) z)),
       c .mark-leaf .ensures ∙ ap (marked _) (sym (hits-leaf _ _ _ (a .level) (a .p) z)),
     )
 
@@ -66,17 +62,17 @@ walk-size-of-requires t c κs = c .before .before .pre .1 .0
 
 walk-loop-holds : (t : ℕ) → walk-lts.Need-loop-holds (walk-cs t) (walk-at t) walk.Post walk-Inv-loop walk-μ-loop
 unfolding marked
-walk-loop-holds t c = (c .size-of .ensures, omega arith, (sym (add-zero _), refl))
+walk-loop-holds t c = (c .size-of .ensures, omega arith, (refl, refl))
 
 walk-entry-at-requires : (t : ℕ) → walk-lts.Need-entry-at-requires (walk-cs t) (walk-at t) walk.Post walk-Inv-loop walk-μ-loop
 walk-entry-at-requires t c κs =
-    let g = c .before .before .before .before .before in
-    (g .pre .1 .0, omega (arith, c .before .loop .inv .0))
+    let g = c .before .before .before .before .before .before in
+    (g .pre .1 .0, omega (arith, c .before .before .loop .inv .0))
 
 walk-opens-requires : (t : ℕ) → walk-lts.Need-opens-requires (walk-cs t) (walk-at t) walk.Post walk-Inv-loop walk-μ-loop
 walk-opens-requires t c κs =
-    let g = c .before .before .before .before .before .before .pre .1 in
-    (g .2, g .3)
+    let g = c .before .before .before .before .before .before .before .pre .1 in
+    (g .3, g .4)
 
 walk-sub-walk : (t : ℕ) → walk-lts.Need-sub-walk (walk-cs t) (walk-at t) walk.Post walk-Inv-loop walk-μ-loop
 walk-sub-walk t c = search needs
@@ -86,22 +82,34 @@ walk-to-index-requires t c κs = search needs
 
 walk-walk-requires : (t : ℕ) → walk-lts.Need-walk-requires (walk-cs t) (walk-at t) walk.Post walk-Inv-loop walk-μ-loop
 walk-walk-requires t c κs =
-    let g = c .before .before .before .before .before .before .before .before .before .before in
+    let g = c .before .before .before .before .before .before .before .before .before .before .before in
     let a = g .args in
-    let l = c .before .before .before .before .before .before .loop in
+    let l = c .before .before .before .before .before .before .before .loop in
     let e = c .before .before .before .before .entry-at in
-    let z = c .before .before .before .before .before .before .before .before .if1 .left in
-    let il : l .i < length (page (tableIn (a .table .now)) (a .p) .entries) = omega arith in
-    let y = sym (c .before .before .before .opens .ensures) ∙ c .before .before .if2 .taken in (
+    let z = c .before .before .before .before .before .before .before .before .before .before .if1 .left in
+    let il : l .i < length (page (tableIn (a .table .now .now)) (a .p) .entries) = omega arith in
+    let y = sym (c .before .before .before .opens .ensures) ∙ c .before .before .if2 .taken in
+    let few = child-room (opensBy (a .below .now) (referenceOf (a .frame .now))) (tableIn (a .table .now .now) .pages) (a .level) (a .p) (l .i) (e .result) _ (c .before .to-index .ensures) 0 (l .count) PAGES z il (e .ensures) y (l .inv .2 .0) (omega (arith, g .pre .1 .1)) in (
       omega arith,
       (
         same-page _ _ _ _ (c .before .to-index .ensures ∙ ap (λ x. x .r) (e .ensures)) (child-page _ _ _ (g .pre .1 .0) (l .i) z il),
-        child-room (opensBy (a .below .now) (a .reference .rect)) (tableIn (a .table .now) .pages) (a .level) (a .p) (l .i) (e .result) _ (c .before .to-index .ensures) (a .opened) (l .count) _ z il (e .ensures) y (l .inv .2 .0) (g .pre .1 .1),
+        omega (arith, few),
         g .pre .1 .2,
         g .pre .1 .3,
         g .pre .1 .4,
       ),
     )
+
+walk-add-count : (t : ℕ) → walk-lts.Need-add-count (walk-cs t) (walk-at t) walk.Post walk-Inv-loop walk-μ-loop
+walk-add-count t c =
+    let g = c .before .before .before .before .before .before .before .before .before .before .before .before in
+    let a = g .args in
+    let l = c .before .before .before .before .before .before .before .before .loop in
+    let e = c .before .before .before .before .before .entry-at in
+    let z = c .before .before .before .before .before .before .before .before .before .before .before .if1 .left in
+    let il : l .i < length (page (tableIn (a .table .now .now)) (a .p) .entries) = omega (arith, c .before .before .before .before .before .before .before .loop-test .taken, l .inv .0) in
+    let y = sym (c .before .before .before .before .opens .ensures) ∙ c .before .before .before .if2 .taken in
+    omega (arith, c .walk .ensures .0, child-room (opensBy (a .below .now) (referenceOf (a .frame .now))) (tableIn (a .table .now .now) .pages) (a .level) (a .p) (l .i) (e .result) _ (c .before .before .to-index .ensures) 0 (l .count) PAGES z il (e .ensures) y (l .inv .2 .0) (omega (arith, g .pre .1 .1)))
 
 walk-add-i : (t : ℕ) → walk-lts.Need-add-i (walk-cs t) (walk-at t) walk.Post walk-Inv-loop walk-μ-loop
 walk-add-i t c = search needs
@@ -111,17 +119,16 @@ walk-loop-less t c = search needs
 
 walk-loop-again : (t : ℕ) → walk-lts.Need-loop-again (walk-cs t) (walk-at t) walk.Post walk-Inv-loop walk-μ-loop
 walk-loop-again t c =
-    let g = c .before .before .before .before .before .before .before .before in
-    let a = g .args in
-    let l = c .before .before .before .before .loop in
+    let a = c .before .before .before .before .before .before .before .before .before .args in
+    let l = c .before .before .before .before .before .loop in
     let e = c .before .before .entry-at in
-    let il : l .i < length (page (tableIn (a .table .now)) (a .p) .entries) = omega arith in
+    let il : l .i < length (page (tableIn (a .table .now .now)) (a .p) .entries) = omega arith in
     let y = sym (c .before .opens .ensures) in (
       l .inv .0,
       omega arith,
       ⊎-elim
-          (λ w. let u = marking-open (opensBy (a .below .now) (a .reference .rect)) (tableIn (a .table .now) .pages) (a .level - 1) _ (l .i) (e .result) il (e .ensures) (a .opened + 1) (l .count) _ (w .1 .ensures) (admitsBy (a .rows .now) (a .reference .rect)) _ (l .marks) _ (w .3 .result) (y ∙ w .0 .taken) (l .inv .2) (w .3 .ensures) in (w .5 ∙ u .0, w .4 ∙ u .1))
-          (λ w. let u = marking-shut (opensBy (a .below .now) (a .reference .rect)) (tableIn (a .table .now) .pages) (a .level - 1) _ (l .i) (e .result) il (e .ensures) (a .opened + 1) (l .count) (admitsBy (a .rows .now) (a .reference .rect)) _ (l .marks) (y ∙ w .0 .left) (l .inv .2) in (w .2 ∙ u .0, w .1 ∙ u .1))
+          (λ w. let u = marking-open (opensBy (a .below .now) (referenceOf (a .frame .now))) (tableIn (a .table .now .now) .pages) (a .level - 1) _ (l .i) (e .result) il (e .ensures) 1 (l .count) _ (w .1 .ensures) (admitsBy (a .rows .now) (referenceOf (a .frame .now))) _ (l .marks) _ _ (y ∙ w .0 .taken) (l .inv .2) (w .3 .ensures) in (w .5 ∙ u .0, w .4 ∙ u .1))
+          (λ w. let u = marking-shut (opensBy (a .below .now) (referenceOf (a .frame .now))) (tableIn (a .table .now .now) .pages) (a .level - 1) _ (l .i) (e .result) il (e .ensures) 1 (l .count) (admitsBy (a .rows .now) (referenceOf (a .frame .now))) _ (l .marks) (y ∙ w .0 .left) (l .inv .2) in (w .2 ∙ u .0, w .1 ∙ u .1))
           (c .if2 .came),
     )
 
@@ -129,10 +136,10 @@ walk-returns-2 : (t : ℕ) → walk-lts.Need-returns-2 (walk-cs t) (walk-at t) w
 walk-returns-2 t c =
     let a = c .before .before .before .before .before .args in
     let l = c .before .loop in
-    let z = c .before .before .before .if1 .left in
-    let il : length (page (tableIn (a .table .now)) (a .p) .entries) ≤ l .i = omega arith in (
-      count-end (opensBy (a .below .now) (a .reference .rect)) (tableIn (a .table .now) .pages) (a .level) (a .p) (l .i) (a .opened) (l .count) z il (l .inv .2 .0),
-      marks-end (admitsBy (a .rows .now) (a .reference .rect)) (opensBy (a .below .now) (a .reference .rect)) (tableIn (a .table .now) .pages) (a .level) (a .p) (l .i) _ (l .marks) z il (l .inv .2 .1),
+    let z = c .before .before .before .before .if1 .left in
+    let il : length (page (tableIn (a .table .now .now)) (a .p) .entries) ≤ l .i = omega arith in (
+      omega (arith, count-end (opensBy (a .below .now) (referenceOf (a .frame .now))) (tableIn (a .table .now .now) .pages) (a .level) (a .p) (l .i) 0 (l .count) z il (l .inv .2 .0)),
+      marks-end (admitsBy (a .rows .now) (referenceOf (a .frame .now))) (opensBy (a .below .now) (referenceOf (a .frame .now))) (tableIn (a .table .now .now) .pages) (a .level) (a .p) (l .i) _ (l .marks) z il (l .inv .2 .1),
     )
 
 pub +walk-spec : {M : Type 1} → statement M
@@ -141,7 +148,6 @@ pub +walk-spec : {M : Type 1} → statement M
     walk.Post
     walk-Inv-loop
     walk-μ-loop
-    (walk-add-count t)
     (walk-mark-leaf-requires t)
     (walk-returns t)
     (walk-size-of-requires t)
@@ -151,6 +157,7 @@ pub +walk-spec : {M : Type 1} → statement M
     (walk-sub-walk t)
     (walk-to-index-requires t)
     (walk-walk-requires t)
+    (walk-add-count t)
     (walk-add-i t)
     (walk-loop-less t)
     (walk-loop-again t)

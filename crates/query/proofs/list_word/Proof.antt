@@ -5,10 +5,11 @@ use native.Mathlib.Omega.{arith}
 use mathlib.Core.Path.{_≡_, refl, _∙_}
 use lib.ListN.{length, length-set}
 use lib.Seq.{sets}
-use lib.Count.{trailingZeros}
-use lib.Pow.{pow-pos}
-use Rattle.query.specs.Steps.{MARK_BITS, onesFrom}
-use Rattle.query.proofs.Bits.{lowest, one-shifted, low-count, low-words, low-end}
+use lib.Count.{trailing-le}
+use Rattle.relations.specs.Sets.{onesFrom}
+use Rattle.relations.proofs.Lowest.{lowest}
+use Rattle.query.specs.Steps.{MARK_BITS}
+use Rattle.query.proofs.Bits.{low-count, low-words, low-end}
 use Rattle.query.proofs.list_word.Statement.{statement}
 use Rattle.query.proofs.list_word.Tie as tie
 
@@ -22,13 +23,13 @@ loop-holds : tie.Need-loop-holds Inv-loop μ-loop
 loop-holds c = (search needs, refl, refl, refl)
 
 cast-answer : tie.Need-cast-answer Inv-loop μ-loop
-cast-answer c = omega (arith, lowest 64 _ (c .loop-test .taken) (c .before .loop .inv .0) .place)
+cast-answer c = omega (arith, trailing-le 64 (c .before .loop .rest))
 
 add-answer : tie.Need-add-answer Inv-loop μ-loop
-add-answer c = omega (arith, lowest 64 _ (c .loop-test .taken) (c .before .loop .inv .0) .place)
+add-answer c = omega (arith, lowest _ (c .loop-test .taken) (c .before .loop .inv .0) .place)
 
 cast-answer-2 : tie.Need-cast-answer-2 Inv-loop μ-loop
-cast-answer-2 c = omega (arith, lowest 64 _ (c .loop-test .taken) (c .before .loop .inv .0) .place)
+cast-answer-2 c = omega (arith, lowest _ (c .loop-test .taken) (c .before .loop .inv .0) .place)
 
 mul-answer : tie.Need-mul-answer Inv-loop μ-loop
 mul-answer c = search needs
@@ -36,36 +37,31 @@ mul-answer c = search needs
 slice-write-answer : tie.Need-slice-write-answer Inv-loop μ-loop
 slice-write-answer c =
     let l = c .before .loop in
-    omega (arith, low-count (l .rest) _ (c .loop-test .taken) (l .inv .0) refl (c .before .before .args .base) (l .next))
+    omega (arith, low-count (l .rest) (c .loop-test .taken) (l .inv .0) (c .before .before .args .base) (l .next))
 
 add-next : tie.Need-add-next Inv-loop μ-loop
 add-next c = search needs
 
 cast-rest : tie.Need-cast-rest Inv-loop μ-loop
-cast-rest c = omega (arith, lowest 64 _ (c .loop-test .taken) (c .before .loop .inv .0) .place)
+cast-rest c = omega (arith, trailing-le 64 (c .before .loop .rest))
 
 shl-rest : tie.Need-shl-rest Inv-loop μ-loop
-shl-rest c = omega (arith, lowest 64 _ (c .loop-test .taken) (c .before .loop .inv .0) .place)
+shl-rest c = lowest _ (c .loop-test .taken) (c .before .loop .inv .0) .place
 
 sub-rest : tie.Need-sub-rest Inv-loop μ-loop
-sub-rest c =
-    let e = one-shifted (trailingZeros 64 (c .before .loop .rest)) (lowest 64 _ (c .loop-test .taken) (c .before .loop .inv .0) .place) in
-    omega (arith, e, lowest 64 _ (c .loop-test .taken) (c .before .loop .inv .0) .small)
+sub-rest c = lowest _ (c .loop-test .taken) (c .before .loop .inv .0) .small
 
 loop-less : tie.Need-loop-less Inv-loop μ-loop
-loop-less c =
-    let e = one-shifted (trailingZeros 64 (c .before .loop .rest)) (lowest 64 _ (c .loop-test .taken) (c .before .loop .inv .0) .place) in
-    omega (arith, e, lowest 64 _ (c .loop-test .taken) (c .before .loop .inv .0) .small, pow-pos (trailingZeros 64 (c .before .loop .rest)))
+loop-less c = lowest _ (c .loop-test .taken) (c .before .loop .inv .0) .less
 
 loop-again : tie.Need-loop-again Inv-loop μ-loop
 loop-again c =
-    let e = one-shifted (trailingZeros 64 (c .before .loop .rest)) (lowest 64 _ (c .loop-test .taken) (c .before .loop .inv .0) .place) in
     let l = c .before .loop in
     let b = c .before .before .args .base in (
       omega arith,
       simp length-set (l .inv .1),
-      low-count (l .rest) _ (c .loop-test .taken) (l .inv .0) e b (l .next) ∙ l .inv .2,
-      low-words (l .rest) _ (c .loop-test .taken) (l .inv .0) e b (l .next) (l .answer) ∙ l .inv .3,
+      low-count (l .rest) (c .loop-test .taken) (l .inv .0) b (l .next) ∙ l .inv .2,
+      low-words (l .rest) (c .loop-test .taken) (l .inv .0) b (l .next) (l .answer) ∙ l .inv .3,
     )
 
 same-length : tie.Need-same-length Inv-loop μ-loop

@@ -2,8 +2,8 @@
 use borrow.Author.Needs.{needs}
 use Prim.Native.Nat.{_%_}
 use native.Mathlib.Omega.{arith}
+use Rattle.relations.proofs.Lowest.{one-shifted}
 use Rattle.query.specs.Steps.{withMark}
-use Rattle.query.proofs.Bits.{one-shifted}
 use Rattle.query.proofs.mark.Statement.{statement}
 use Rattle.query.proofs.mark.Tie as tie
 

@@ -7,7 +7,7 @@ use mathlib.Core.Logic.{⊎-elim}
 use lib.ListN.{length, take}
 use Rattle.pages.specs.Lists.{concatMap}
 use Rattle.pages.specs.Layout.{page, tableIn}
-use Rattle.query.specs.Steps.{admitsBy, admittedR, marked}
+use Rattle.query.specs.Steps.{referenceOf, admitsBy, admittedR, marked}
 use Rattle.query.proofs.Reading.{piece-number}
 use Rattle.query.proofs.Concat.{concat-all}
 use Rattle.query.proofs.Walking.{leaf-hit, leaf-miss}
@@ -15,10 +15,10 @@ use Rattle.query.proofs.mark_leaf.Statement.{statement}
 use Rattle.query.proofs.mark_leaf.Tie as tie
 
 abbrev Inv-loop : tie.InvT-loop
-Inv-loop table reference rows p marks₀ n i₀ marks i = (n ≡ length (page (tableIn table) p .entries)) × (i ≤ n) × (marks ≡ marked marks₀ (concatMap (admittedR (admitsBy rows (reference .rect))) (take i (page (tableIn table) p .entries))))
+Inv-loop table frame whole rows p marks₀ n i₀ marks i = (n ≡ length (page (tableIn table) p .entries)) × (i ≤ n) × (marks ≡ marked marks₀ (concatMap (admittedR (admitsBy rows (referenceOf frame))) (take i (page (tableIn table) p .entries))))
 
 abbrev μ-loop : tie.MeasureT-loop
-μ-loop table reference rows p marks₀ n i₀ marks i = n - i
+μ-loop table frame whole rows p marks₀ n i₀ marks i = n - i
 
 size-of-requires : tie.Need-size-of-requires Inv-loop μ-loop
 size-of-requires c κs = search needs
@@ -55,8 +55,8 @@ loop-again c =
       search needs,
       search needs,
       ⊎-elim
-          (λ w. w .3 ∙ leaf-hit (admitsBy (a .rows .now) (a .reference .rect)) _ (l .i) (e .result) il (e .ensures) _ (l .marks) (l .inv .2) _ (y ∙ w .0 .taken) (w .2 .ensures))
-          (λ w. w .1 ∙ leaf-miss (admitsBy (a .rows .now) (a .reference .rect)) _ (l .i) (e .result) il (e .ensures) _ (l .marks) (l .inv .2) (y ∙ w .0 .left))
+          (λ w. w .3 ∙ leaf-hit (admitsBy (a .rows .now) (referenceOf (a .frame .now))) _ (l .i) (e .result) il (e .ensures) _ (l .marks) (l .inv .2) _ (y ∙ w .0 .taken) (w .2 .ensures))
+          (λ w. w .1 ∙ leaf-miss (admitsBy (a .rows .now) (referenceOf (a .frame .now))) _ (l .i) (e .result) il (e .ensures) _ (l .marks) (l .inv .2) (y ∙ w .0 .left))
           (c .if1 .came),
     )
 
@@ -64,7 +64,7 @@ returns : tie.Need-returns Inv-loop μ-loop
 returns c =
     let a = c .before .before .before .before .args in
     let l = c .before .loop in
-    l .inv .2 ∙ ap (marked _) (concat-all (admittedR (admitsBy (a .rows .now) (a .reference .rect))) (page (tableIn (a .table .now)) (a .p) .entries) (l .i) (omega arith))
+    l .inv .2 ∙ ap (marked _) (concat-all (admittedR (admitsBy (a .rows .now) (referenceOf (a .frame .now)))) (page (tableIn (a .table .now)) (a .p) .entries) (l .i) (omega arith))
 
 pub mark-leaf-spec : {M : Type 1} → statement M
 mark-leaf-spec =

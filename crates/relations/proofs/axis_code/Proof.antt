@@ -1,5 +1,4 @@
 -- Each way out is one of the three laws of the code by its sides.
-use mathlib.Core.Logic.{⊎-elim, inl, inr}
 use mathlib.Core.Path.{ap, ap₂, _∙_}
 use Prim.Native.Nat.{ℕ, _+_, _*_}
 use borrow.Author.Needs.{needs}
@@ -25,7 +24,7 @@ add-result-2 c = search needs
 returns-2 : tie.Need-returns-2
 returns-2 c =
     ap (λ (s : ℕ). 11 + s) (c .side2 .ensures .0)
-    ∙ code-below _ _ _ _ (c .before .before .before .if1 .left) (c .before .before .if2 .taken) (c .before .if3 .taken)
+    ∙ code-below _ _ _ _ (c .before .before .before .pre) (c .before .before .if1 .left) (c .before .if2 .taken)
 
 side-requires-3 : tie.Need-side-requires-3
 side-requires-3 c κs = search needs
@@ -45,8 +44,7 @@ add-result-4 c = search needs
 returns-3 : tie.Need-returns-3
 returns-3 c =
     ap₂ (λ (e s : ℕ). 3 + 3 * e + s) (c .before .side3 .ensures .0) (c .side4 .ensures .0)
-    ∙ code-over _ _ _ _ (c .before .before .before .if1 .left)
-    (⊎-elim (λ w. inr (w .1 .left)) (λ w. inl (w .left)) (c .before .before .if2 .came))
+    ∙ code-over _ _ _ _ (c .before .before .before .if1 .left) (c .before .before .if2 .left)
 
 pub axis-code-spec : {M : Type 1} → statement M
 axis-code-spec =

@@ -1,62 +1,56 @@
--- After t turns the rows are those of the clause's relations below t.
-use mathlib.Core.List.{List}
-use mathlib.Core.Logic.{⊎-elim}
+-- The relations of the rest, added to the rows, make the rows of the clause.
 use mathlib.Core.Path.{_≡_, ap, _∙_}
-use Prim.Native.Nat.{ℕ, _+_, _-_, _≤_}
+use Prim.Native.Nat.{ℕ, suc, _<_, _^_}
 use native.Mathlib.Omega.{arith}
+use lib.Count.{trailing-le}
 use lib.ListN.{length}
 use borrow.Author.Needs.{needs}
-use Rattle.relations.specs.Steps.{withRelation}
-use Rattle.relations.proofs.Rows.{bit-on, bit-off, partRows, part-length, part-none, part-take, part-skip, part-rest, part-whole}
+use Rattle.relations.specs.Sets.{onesFrom, listed}
+use Rattle.relations.specs.Axis.{CODES}
+use Rattle.relations.specs.Steps.{namedRow}
+use Rattle.relations.proofs.Lowest.{lowest}
+use Rattle.relations.proofs.Rows.{gathered, all-gathered, gather-lowest, gather-end, with-length}
 use Rattle.relations.proofs.clause_rows.Statement.{statement}
 use Rattle.relations.proofs.clause_rows.Tie as tie
 
 abbrev Inv-loop : tie.InvT-loop
-Inv-loop clause rows₀ t₀ rows t = (t ≤ 40) × (rows ≡ partRows clause t)
+Inv-loop clause rows₀ rest₀ rows rest = (rest < 2 ^ 64) × (length rows ≡ CODES) × (gathered rows (onesFrom 0 64 rest) ≡ listed (λ (h : ℕ). namedRow clause (suc h)) CODES)
 
 abbrev μ-loop : tie.MeasureT-loop
-μ-loop clause rows₀ t₀ rows t = 40 - t
+μ-loop clause rows₀ rest₀ rows rest = rest
 
 loop-holds : tie.Need-loop-holds Inv-loop μ-loop
-loop-holds c = (omega arith, part-none _)
+loop-holds c = (search needs, search needs, all-gathered _)
 
-shr-if1 : tie.Need-shr-if1 Inv-loop μ-loop
-shr-if1 c = search needs
-
-returns : tie.Need-returns Inv-loop μ-loop
-returns c =
-    let at = c .before .before in
-    let t = at .loop .t in
-    let e : t + (40 - t) ≡ 40 = omega arith in
-    at .loop .inv .1 ∙ part-rest _ t (40 - t) (c .if1 .taken) ∙ ap (partRows _) e ∙ part-whole _
-
-shr-if2 : tie.Need-shr-if2 Inv-loop μ-loop
-shr-if2 c = search needs
+cast-add-relation : tie.Need-cast-add-relation Inv-loop μ-loop
+cast-add-relation c = omega (arith, trailing-le 64 (c .before .before .loop .rest))
 
 add-relation-requires : tie.Need-add-relation-requires Inv-loop μ-loop
-add-relation-requires c κs = ap length (c .before .before .before .before .loop .inv .1) ∙ part-length _ _
+add-relation-requires c κs = c .before .before .loop .inv .1
 
-add-t : tie.Need-add-t Inv-loop μ-loop
-add-t c = search needs
+cast-rest : tie.Need-cast-rest Inv-loop μ-loop
+cast-rest c = omega (arith, trailing-le 64 (c .before .before .before .loop .rest))
+
+shl-rest : tie.Need-shl-rest Inv-loop μ-loop
+shl-rest c = lowest _ (c .before .before .loop-test .taken) (c .before .before .before .loop .inv .0) .place
+
+sub-rest : tie.Need-sub-rest Inv-loop μ-loop
+sub-rest c = lowest _ (c .before .before .loop-test .taken) (c .before .before .before .loop .inv .0) .small
 
 loop-less : tie.Need-loop-less Inv-loop μ-loop
-loop-less c = search needs
+loop-less c = lowest _ (c .before .before .loop-test .taken) (c .before .before .before .loop .inv .0) .less
 
 loop-again : tie.Need-loop-again Inv-loop μ-loop
 loop-again c =
-    let at = c .before .before .before in
-    let t = at .loop .t in (
+    let l = c .before .before .before .loop in
+    let e = c .add-relation .ensures in (
       omega arith,
-      ⊎-elim (λ w. w .3 ∙ w .2 .ensures ∙ ap (λ (r : List ℕ). withRelation r t) (at .loop .inv .1) ∙ part-take _ t (bit-on _ _ (w .0 .taken)))
-          (λ w. w .1 ∙ at .loop .inv .1 ∙ part-skip _ t (bit-off _ _ (w .0 .left)))
-          (c .if2 .came),
+      ap length e ∙ with-length _ _,
+      gather-lowest _ _ _ (c .before .before .loop-test .taken) (l .inv .0) e ∙ l .inv .2,
     )
 
-returns-2 : tie.Need-returns-2 Inv-loop μ-loop
-returns-2 c =
-    let at = c .before in
-    let e : at .loop .t ≡ 40 = omega arith in
-    at .loop .inv .1 ∙ ap (partRows _) e ∙ part-whole _
+returns : tie.Need-returns Inv-loop μ-loop
+returns c = gather-end _ _ (c .loop-test .left) ∙ c .before .loop .inv .2
 
 pub clause-rows-spec : {M : Type 1} → statement M
 clause-rows-spec =
@@ -65,11 +59,11 @@ clause-rows-spec =
     Inv-loop
     μ-loop
     loop-holds
-    shr-if1
-    returns
-    shr-if2
+    cast-add-relation
     add-relation-requires
-    add-t
+    cast-rest
+    shl-rest
+    sub-rest
     loop-less
     loop-again
-    returns-2)
+    returns)

@@ -1,0 +1,142 @@
+-- What lies beyond the window fails the page test and the leaf test; where exactly what overlaps is admitted, all else passes both.
+use Prim.Native.Nat.{ℕ, _+_, _-_, _<_, _≤_}
+use native.Mathlib.Omega.{arith}
+use mathlib.Core.Path.{_≡_, refl, sym, ap, _∙_}
+use mathlib.Core.Logic.{_⊎_, inl, inr}
+use mathlib.Core.Bool.{Bool, true, false, _||_, cond}
+use mathlib.Core.List.{List}
+use lib.Dec.{T, ltb}
+use borrow.Author.Tests.{ltb-true, ltb-false}
+use Rattle.relations.specs.Steps.{joinedOf, nearBy, innerBy, wholeBy, overlapBy}
+use Rattle.relations.proofs.Tests.{and-left, and-right, or-left, or-right}
+use Rattle.relations.proofs.Sides.{is-code}
+use Rattle.relations.proofs.Near.{Shut, shut-y, shut-x, apart, outside, near-shut, inner-shut, leaf-less}
+use Rattle.relations.proofs.Whole.{Overlapping, overlapping, whole-leaf, whole-page}
+use Rattle.pages.specs.declared.Rect.{Rect}
+use Rattle.pages.specs.Rectangles.{rectOf, valid}
+use Rattle.query.specs.Admission.{codeY, codeX}
+use Rattle.query.specs.Steps.{WORD_MAX, frameOf, windowFor, beyond, Known, admitsBy, opensBy}
+use Rattle.query.proofs.Tests.{Proper, proper}
+
+either : (a b : Bool) → (a || b) ≡ true → (a ≡ true) ⊎ (b ≡ true)
+either true b e = inl refl
+either false b e = inr e
+
+-- on which axis p lies beyond w
+data Side (w p : Rect) : Type 0 where
+  on-y : (w .y2 < p .y1) ⊎ (p .y2 < w .y1) → Side w p
+  on-x : (w .x2 < p .x1) ⊎ (p .x2 < w .x1) → Side w p
+
+side : (w p : Rect) → beyond w p ≡ true → Side w p
+unfolding beyond
+side w p e = go (either _ _ e)
+  where
+    last : (ltb (w .x2) (p .x1) ≡ true) ⊎ (ltb (p .x2) (w .x1) ≡ true) → Side w p
+    last (inl h) = on-x (inl (ltb-true _ _ h))
+    last (inr h) = on-x (inr (ltb-true _ _ h))
+
+    next : (ltb (p .y2) (w .y1) ≡ true) ⊎ ((ltb (w .x2) (p .x1) || ltb (p .x2) (w .x1)) ≡ true) → Side w p
+    next (inl h) = on-y (inr (ltb-true _ _ h))
+    next (inr h) = last (either _ _ h)
+
+    go : (ltb (w .y2) (p .y1) ≡ true) ⊎ ((ltb (p .y2) (w .y1) || (ltb (w .x2) (p .x1) || ltb (p .x2) (w .x1))) ≡ true) → Side w p
+    go (inl h) = on-y (inl (ltb-true _ _ h))
+    go (inr h) = next (either _ _ h)
+
+-- what lies beyond on no side
+record In (w p : Rect) : Type 0 where
+  y-low : p .y1 ≤ w .y2
+  y-high : w .y1 ≤ p .y2
+  x-low : p .x1 ≤ w .x2
+  x-high : w .x1 ≤ p .x2
+
+within : (w p : Rect) → beyond w p ≡ false → In w p
+unfolding beyond
+within w p e =
+    let f : (ltb (p .y2) (w .y1) || (ltb (w .x2) (p .x1) || ltb (p .x2) (w .x1))) ≡ false = or-right (ltb (w .y2) (p .y1)) _ e in
+    let g : (ltb (w .x2) (p .x1) || ltb (p .x2) (w .x1)) ≡ false = or-right (ltb (p .y2) (w .y1)) _ f in
+    record {
+      y-low = ltb-false _ _ (or-left _ _ e);
+      y-high = ltb-false _ _ (or-left _ _ f);
+      x-low = ltb-false _ _ (or-left _ _ g);
+      x-high = ltb-false _ _ (or-right (ltb (w .x2) (p .x1)) _ g);
+    }
+
+-- the window drawn in
+abbrev drawn : Rect → Rect
+drawn q = rectOf (q .x1 + 1) (q .y1 + 1) (q .x2 - 1) (q .y2 - 1)
+
+drawn-out : {p1 p2 q1 q2 : ℕ} → (q2 - 1 < p1) ⊎ (p2 < q1 + 1) → (q2 ≤ p1) ⊎ (p2 ≤ q1)
+drawn-out (inl h) = inl (omega arith)
+drawn-out (inr h) = inr (omega arith)
+
+module _ (rows : List ℕ) (q : Rect) (v : T (valid q)) where
+  o : Proper q
+  o = proper q v
+
+  module _ (p : Rect) where
+    shut-on-y : Shut rows (codeY q p) → opensBy (joinedOf rows) q p ≡ false
+    unfolding opensBy
+    shut-on-y s = shut-y rows s (codeX q p)
+
+    shut-on-x : Shut rows (codeX q p) → opensBy (joinedOf rows) q p ≡ false
+    unfolding opensBy
+    shut-on-x s = shut-x rows s (codeY q p) (is-code (p .y1) (p .y2) (q .y1) (q .y2))
+
+    past-drawn : innerBy (joinedOf rows) ≡ true → Side (drawn q) p → opensBy (joinedOf rows) q p ≡ false
+    past-drawn n (on-y h) = shut-on-y (inner-shut rows n (outside (p .y1) (p .y2) (q .y1) (q .y2) (o .on-y) (drawn-out h)))
+    past-drawn n (on-x h) = shut-on-x (inner-shut rows n (outside (p .x1) (p .x2) (q .x1) (q .x2) (o .on-x) (drawn-out h)))
+
+    past-reference : nearBy (joinedOf rows) ≡ true → Side q p → opensBy (joinedOf rows) q p ≡ false
+    past-reference n (on-y h) = shut-on-y (near-shut rows n (apart (p .y1) (p .y2) (q .y1) (q .y2) (o .on-y) h))
+    past-reference n (on-x h) = shut-on-x (near-shut rows n (apart (p .x1) (p .x2) (q .x1) (q .x2) (o .on-x) h))
+
+    past-words : p .x1 ≤ WORD_MAX → p .y1 ≤ WORD_MAX → Side (rectOf 0 0 WORD_MAX WORD_MAX) p → opensBy (joinedOf rows) q p ≡ false
+    past-words x y (on-y (inl h)) = absurd (omega arith)
+    past-words x y (on-y (inr h)) = absurd (omega arith)
+    past-words x y (on-x (inl h)) = absurd (omega arith)
+    past-words x y (on-x (inr h)) = absurd (omega arith)
+
+    past : p .x1 ≤ WORD_MAX → p .y1 ≤ WORD_MAX → (near inner : Bool) → nearBy (joinedOf rows) ≡ near → innerBy (joinedOf rows) ≡ inner → Side (windowFor q near inner) p → opensBy (joinedOf rows) q p ≡ false
+    unfolding windowFor
+    past x y near true n i s = past-drawn i s
+    past x y true false n i s = past-reference n s
+    past x y false false n i s = past-words x y s
+
+  abbrev window : Rect
+  window = windowFor q (nearBy (joinedOf rows)) (innerBy (joinedOf rows))
+
+  shut-out : (p : Rect) → p .x1 ≤ WORD_MAX → p .y1 ≤ WORD_MAX → beyond window p ≡ true → opensBy (joinedOf rows) q p ≡ false
+  shut-out p x y e = past p x y _ _ refl refl (side window p e)
+
+  module _ (w : overlapBy rows (joinedOf rows) ≡ true) (p : Rect) (e : beyond window p ≡ false) where
+    m : In (drawn q) p
+    unfolding windowFor overlapBy
+    m = within (drawn q) p (sym (ap (λ (i : Bool). beyond (cond i (drawn q) (cond (nearBy (joinedOf rows)) q (rectOf 0 0 WORD_MAX WORD_MAX))) p) (and-left (innerBy (joinedOf rows)) (wholeBy rows) w)) ∙ e)
+
+    i : Overlapping (codeY q p)
+    i = overlapping (p .y1) (p .y2) (q .y1) (q .y2) (omega (arith, m .y-low, o .on-y)) (omega (arith, m .y-high))
+
+    j : Overlapping (codeX q p)
+    j = overlapping (p .x1) (p .x2) (q .x1) (q .x2) (omega (arith, m .x-low, o .on-x)) (omega (arith, m .x-high))
+
+    taken-page : opensBy (joinedOf rows) q p ≡ true
+    unfolding opensBy overlapBy
+    taken-page = whole-page rows (and-right (innerBy (joinedOf rows)) _ w) (codeY q p) (codeX q p) i j
+
+    taken-leaf : admitsBy rows q p ≡ true
+    unfolding admitsBy overlapBy
+    taken-leaf = whole-leaf rows (and-right (innerBy (joinedOf rows)) _ w) (codeY q p) (codeX q p) i j
+
+  leaf-shut : (p : Rect) → p .x1 ≤ WORD_MAX → p .y1 ≤ WORD_MAX → beyond window p ≡ true → admitsBy rows q p ≡ false
+  unfolding admitsBy opensBy
+  leaf-shut p x y e =
+      leaf-less rows (codeY q p) (codeX q p) (is-code (p .y1) (p .y2) (q .y1) (q .y2)) (is-code (p .x1) (p .x2) (q .x1) (q .x2)) (shut-out p x y e)
+
+  -- the frame that a query makes
+  module _ (below f : List ℕ) (whole : Bool) (joined : below ≡ joinedOf rows) (made : f ≡ frameOf q (windowFor q (nearBy below) (innerBy below))) (w : whole ≡ overlapBy rows below) where
+    pub known-pages : Known f whole (opensBy below)
+    known-pages = rw (made, w, joined) (record { proper = v; fails = shut-out; passes = taken-page })
+
+    pub known-leaves : Known f whole (admitsBy rows)
+    known-leaves = rw (made, w, joined) (record { proper = v; fails = leaf-shut; passes = taken-leaf })
