@@ -24,14 +24,15 @@ bit-pow (suc j) (suc i) =
 
 -- the lowest one is written, and taken away
 module _ (n : ℕ) (z : n ≢ 0) (l : n < 2 ^ 64) (b next : ℕ) where
-  pub low-count : next + 1 + length (onesFrom b 64 (n - lowestOne n)) ≡ next + length (onesFrom b 64 n)
-  low-count = omega (arith, ap length (lowest n z l .first b))
+  pub low-count : next + 1 + length (onesFrom b 64 (n - lowestOne 64 n)) ≡ next + length (onesFrom b 64 n)
+  low-count = omega (arith, ap length (lowest 64 n z l .first b))
 
-  pub low-words : (o : List ℕ) → sets (set o next (b + trailingZeros 64 n)) (next + 1) (onesFrom b 64 (n - lowestOne n)) ≡ sets o next (onesFrom b 64 n)
-  low-words o = rw (lowest n z l .first b, add-one)
+  pub low-words : (o : List ℕ) → sets (set o next (b + trailingZeros 64 n)) (next + 1) (onesFrom b 64 (n - lowestOne 64 n)) ≡ sets o next (onesFrom b 64 n)
+  low-words o = rw (lowest 64 n z l .first b, add-one)
 
 -- none is left
+pub none-left : (l : List ℕ) (next s : ℕ) (o o₁ : List ℕ) → l ≡ [] → next + length l ≡ s → sets o next l ≡ o₁ → (next ≡ s) × (o ≡ o₁)
+none-left l next s o o₁ e p q = (omega (arith, ap length e), sym (ap (sets o next) e) ∙ q)
+
 pub low-end : (n b next s : ℕ) (o o₁ : List ℕ) → n ≡ 0 → next + length (onesFrom b 64 n) ≡ s → sets o next (onesFrom b 64 n) ≡ o₁ → (next ≡ s) × (o ≡ o₁)
-low-end n b next s o o₁ z p q =
-    let e : onesFrom b 64 n ≡ [] = ap (onesFrom b 64) z ∙ ones-none b 64 in
-    (omega (arith, ap length e), sym (ap (sets o next) e) ∙ q)
+low-end n b next s o o₁ z = none-left (onesFrom b 64 n) next s o o₁ (ap (onesFrom b 64) z ∙ ones-none b 64)

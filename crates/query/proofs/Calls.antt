@@ -2,7 +2,7 @@
 use Prim.Native.Nat.{ℕ, zero, suc, _+_, _≤_}
 use native.Mathlib.Omega.{arith}
 use native.Mathlib.Nat.{le-trans}
-use mathlib.Core.Path.{_≡_, refl, sym, ap, ap₂, _∙_}
+use mathlib.Core.Path.{_≡_, refl, sym, ap, ap₂, subst, _∙_}
 use mathlib.Core.Logic.{_≢_}
 use mathlib.Core.Bool.{Bool, true, false, not, cond}
 use mathlib.Core.List.{List, _++_}
@@ -29,10 +29,10 @@ use Rattle.query.specs.declared.Opened.{Opened}
 use Rattle.query.specs.Admission.{admitsRect, opens}
 use Rattle.query.specs.Opening.{openedPages}
 use Rattle.query.specs.Calls.{refusalFrom, soundRefusal, noAnswer, noOpened, queryListing, queryOpened, queryAnswer, querySound, openedSound}
-use Rattle.query.specs.Steps.{MARK_WORDS, admitsBy, opensBy, hitsFrom, marked, markedNumbers, openedListed}
+use Rattle.query.specs.Steps.{MARKS, admitsBy, opensBy, hitsFrom, marked, Summed, markedNumbers, openedListed}
 use Rattle.query.proofs.Root.{opened-few}
 use Rattle.query.proofs.Tests.{admits-same, opens-same, proper, reaches, set-refusal}
-use Rattle.query.proofs.Found.{found, listing-few}
+use Rattle.query.proofs.Found.{found, found-summed, listing-few}
 
 -- from the refusal of the clauses, as the source has it
 refusal-is : (q : Rect) (clauses : List ℕ) (set : AdmittedSet) (r size n m : ℕ) → set ≡ admittedOf clauses → r ≡ refusalFrom q (set .refusal) size n → n ≡ m → r ≡ soundRefusal q clauses size m
@@ -104,11 +104,16 @@ module _ (w : List ℕ) (holds : T (sound w)) (q : Rect) (clauses : List ℕ) (s
   opened-is = ap (λ f. openedPages f (tableIn w)) opens-is
 
   -- the marks of the walk are those of the listing
-  pub listing-is : T (valid q) → (m : List ℕ) → m ≡ marked (replicate MARK_WORDS 0) (hitsFrom (admitsBy (set .rows) q) (opensBy (joinedOf (set .rows)) q) (tableIn w)) → markedNumbers m ≡ queryListing w q clauses
-  unfolding queryListing
-  listing-is v m e =
-      ap markedNumbers (e ∙ ap₂ (λ f g. marked (replicate MARK_WORDS 0) (hitsFrom f g (tableIn w))) admits-is opens-is)
-      ∙ found (tableIn w) (sound-in w holds) (admitsRect clauses q) (opens clauses q) (reaches clauses q (proper q v))
+  module _ (v : T (valid q)) (m : List ℕ) (e : m ≡ marked (replicate MARKS 0) (hitsFrom (admitsBy (set .rows) q) (opensBy (joinedOf (set .rows)) q) (tableIn w))) where
+    marks-are : m ≡ marked (replicate MARKS 0) (hitsFrom (admitsRect clauses q) (opens clauses q) (tableIn w))
+    marks-are = e ∙ ap₂ (λ f g. marked (replicate MARKS 0) (hitsFrom f g (tableIn w))) admits-is opens-is
+
+    pub listing-is : markedNumbers m ≡ queryListing w q clauses
+    unfolding queryListing
+    listing-is = ap markedNumbers marks-are ∙ found (tableIn w) (sound-in w holds) (admitsRect clauses q) (opens clauses q) (reaches clauses q (proper q v))
+
+    summed-is : Summed m
+    summed-is = subst Summed (sym marks-are) (found-summed (tableIn w) (sound-in w holds) (admitsRect clauses q) (opens clauses q) (reaches clauses q (proper q v)))
 
 module _ (w : List ℕ) (holds : T (sound w)) (q : Rect) (clauses : List ℕ) where
   pub listing-room : length (queryListing w q clauses) ≤ tableIn w .count
@@ -120,17 +125,23 @@ module _ (w : List ℕ) (holds : T (sound w)) (q : Rect) (clauses : List ℕ) wh
 
 -- what the marks of an accepted query list
 pub record Lists (w : List ℕ) (q : Rect) (clauses o m : List ℕ) : Type 0 where
+  pub summed : Summed m
   pub is : markedNumbers m ≡ queryListing w q clauses
   pub room : length (markedNumbers m) ≤ length o
   pub small : length (markedNumbers m) ≤ PIECES
 
 pub query-lists : (w : List ℕ) → T (sound w) → (q : Rect) (clauses : List ℕ) (set : AdmittedSet) (o m : List ℕ) → set ≡ admittedOf clauses
     → soundRefusal q clauses (length o) (tableIn w .count) ≡ 0
-    → m ≡ marked (replicate MARK_WORDS 0) (hitsFrom (admitsBy (set .rows) q) (opensBy (joinedOf (set .rows)) q) (tableIn w)) → Lists w q clauses o m
+    → m ≡ marked (replicate MARKS 0) (hitsFrom (admitsBy (set .rows) q) (opensBy (joinedOf (set .rows)) q) (tableIn w)) → Lists w q clauses o m
 query-lists w holds q clauses set o m same e d =
     let a = accepted q clauses (length o) (tableIn w .count) e in
     let l = listing-is w holds q clauses set same (a .query) (a .rectangle) m d in
-    record { is = l; room = rw l (le-trans (listing-room w holds q clauses) (a .room)); small = rw l (listing-small w holds q clauses) }
+    record {
+      summed = summed-is w holds q clauses set same (a .query) (a .rectangle) m d;
+      is = l;
+      room = rw l (le-trans (listing-room w holds q clauses) (a .room));
+      small = rw l (listing-small w holds q clauses);
+    }
 
 pub query-opened : (w : List ℕ) → T (sound w) → (q : Rect) (clauses : List ℕ) (set : AdmittedSet) (size p : ℕ) → set ≡ admittedOf clauses
     → soundRefusal q clauses size (tableIn w .count) ≡ 0 → p ≡ length (openedPages (opensBy (joinedOf (set .rows)) q) (tableIn w)) → p ≡ length (queryOpened w q clauses)

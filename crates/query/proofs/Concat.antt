@@ -5,7 +5,7 @@ use native.Mathlib.Nat.{add-zero, not-suc-le-zero, le-of-suc-le-suc}
 use native.Mathlib.Numerals.{add-one}
 use mathlib.Core.Path.{_≡_, refl, ap, _∙_}
 use mathlib.Core.List.{List, [], _∷_, _++_, append-assoc}
-use lib.ListN.{length, getD, take, set, length-set, length-append}
+use lib.ListN.{length, getD, take, set, length-append}
 use lib.Seq.{sets, take-all}
 use Rattle.pages.specs.Lists.{concatMap}
 use Rattle.query.specs.Steps.{withMark, marked}
@@ -41,11 +41,6 @@ pub marked-append : (m xs ys : List ℕ) → marked m (xs ++ ys) ≡ marked (mar
 unfolding marked
 marked-append m [] ys = refl
 marked-append m (x ∷ xs) ys = marked-append (withMark m x) xs ys
-
-pub marked-length : (m xs : List ℕ) → length (marked m xs) ≡ length m
-unfolding marked withMark
-marked-length m [] = refl
-marked-length m (x ∷ xs) = marked-length (withMark m x) xs ∙ simp length-set
 
 pub sets-append : (l : List ℕ) (i : ℕ) (xs ys : List ℕ) → sets l i (xs ++ ys) ≡ sets (sets l i xs) (i + length xs) ys
 sets-append l i [] ys = rw add-zero

@@ -1,11 +1,11 @@
 -- The walk from the root marks the listing: what it passes over holds no admitted piece. The listing is no longer than the piece count.
-use Prim.Native.Nat.{ℕ, zero, suc, _/_, _≤_, _<_}
+use Prim.Native.Nat.{ℕ, zero, suc, _≤_, _<_}
 use native.Mathlib.Omega.{arith}
 use native.Mathlib.Nat.{le-trans, le-of-eq, add-zero}
 use mathlib.Core.Path.{_≡_, refl, sym, ap, _∙_}
 use mathlib.Core.Bool.{Bool, true, false, cond}
 use mathlib.Core.List.{List, [], _∷_}
-use lib.ListN.{length, replicate, length-append}
+use lib.ListN.{length, getD, replicate, length-append}
 use lib.Dec.{T, ltb, eqb}
 use Rattle.pages.specs.declared.Rect.{Rect}
 use Rattle.pages.specs.declared.Entry.{Entry}
@@ -21,8 +21,10 @@ use Rattle.pages.proofs.Counting.{stored-sum}
 use Rattle.pages.proofs.Walk.{walked, Within, walk-finds}
 use Rattle.query.specs.Listing.{rising, admittedAs, listing}
 use Rattle.query.specs.Calls.{times}
-use Rattle.query.specs.Steps.{MARK_BITS, MARK_WORDS, admittedR, hitsUnder, hitsFrom, isMarked, marked, markedNumbers}
-use Rattle.query.proofs.Marks.{marked-new, rising-same}
+use Rattle.query.specs.Steps.{MARKS, admittedR, hitsUnder, hitsFrom, isMarked, marked, Summed, markedNumbers}
+use Rattle.query.proofs.Marks.{marked-new, summed-new, rising-same}
+use Rattle.query.proofs.Members.{in-times}
+use Rattle.query.proofs.Pieces.{admitted-small}
 
 pub sum-concat : {A B : Type 0} (g : B → ℕ) (f : A → List B) (xs : List A) → sum g (concatMap f xs) ≡ sum (λ x. sum g (f x)) xs
 sum-concat g f [] = refl
@@ -65,13 +67,19 @@ module _ (t : Table) (F : Facts t) (admit opens : Rect → Bool) (reaches : (r s
       hits-times admit opens c (t .pages) (page t (t .root) .level) (t .root)
       ∙ walk-finds t F admit opens reaches (weight admit c) (shut admit c)
 
-  marked-met : (n c : ℕ) → c / MARK_BITS < n → isMarked (marked (replicate n 0) (hitsFrom admit opens t)) c ≡ ltb 0 (admittedAs admit t c)
-  marked-met n c l = marked-new n (hitsFrom admit opens t) c l ∙ ap (ltb 0) (met c)
-
   -- the marked numbers are the listing
-  pub found : markedNumbers (marked (replicate MARK_WORDS 0) (hitsFrom admit opens t)) ≡ listing admit t
+  pub found : markedNumbers (marked (replicate MARKS 0) (hitsFrom admit opens t)) ≡ listing admit t
   unfolding markedNumbers listing
-  found = rising-same PIECES (isMarked (marked (replicate MARK_WORDS 0) (hitsFrom admit opens t))) (λ c. ltb 0 (admittedAs admit t c)) (λ c l. marked-met MARK_WORDS c (omega arith))
+  found =
+      rising-same PIECES (isMarked (marked (replicate MARKS 0) (hitsFrom admit opens t))) (λ c. ltb 0 (admittedAs admit t c))
+      (λ c l. marked-new MARKS (omega arith) (hitsFrom admit opens t) c l ∙ ap (ltb 0) (met c))
+
+  -- the walk meets piece numbers only, which have a word
+  pub found-summed : Summed (marked (replicate MARKS 0) (hitsFrom admit opens t))
+  found-summed =
+      let hits : List ℕ = hitsFrom admit opens t in
+      summed-new MARKS (omega arith) hits
+      (at-every (λ c. c < PIECES) hits 0 (λ i l. admitted-small t F admit (getD hits i 0) (omega (arith, met (getD hits i 0), in-times (getD hits i 0) hits record { place = i; inside = l; holds = refl }))))
 
 -- ---- how long the listing is
 

@@ -4,14 +4,14 @@ pub mod Concat
 pub mod Bits
 pub mod Marks
 pub mod Walking
+pub mod Members
+pub mod Pieces
 pub mod Found
 pub mod Root
 pub mod Tests
 pub mod Known
 pub mod Calls
 pub mod Whole
-pub mod Members
 pub mod Parents
-pub mod Pieces
 pub mod Accepted
 pub mod Demand2

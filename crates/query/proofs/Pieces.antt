@@ -88,6 +88,12 @@ module _ (t : Table) (F : Facts t) (admit : Rect → Bool) where
       let k = every-at (λ e. e .r < PIECES) (page t (m .leaf) .entries) noEntry (rw (leaf-pieces (page t (m .leaf)) (m .level)) at (F .numbers (m .leaf) (m .inside))) (m .place) (m .entry) in
       omega (arith, k, m .number)
 
+  -- what is admitted is a piece number
+  pub admitted-small : (c : ℕ) → 1 ≤ admittedAs admit t c → c < PIECES
+  admitted-small c h =
+      let m = piece-found t admit c h in
+      piece-small c (m .0) (m .1)
+
   pub listed-exactly : (c : ℕ) → In c (listing admit t) ↔ ((r : Rect) × PieceAt t c r × (admit r ≡ true))
   unfolding listing
   listed-exactly c =

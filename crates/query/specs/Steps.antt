@@ -85,15 +85,28 @@ MARK_BITS = 64
 abbrev pub MARK_WORDS : ℕ
 MARK_WORDS = 16
 
+-- behind these words stands one whose bit w says that word w has a mark
+abbrev pub MARKS : ℕ
+MARKS = 17
+
 unfoldable pub isMarked : List ℕ → ℕ → Bool
 isMarked marks c = bit (getD marks (c / MARK_BITS) 0) (c % MARK_BITS)
 
+-- bit j of word w is set
+abbrev pub withBit : List ℕ → ℕ → ℕ → List ℕ
+withBit marks w j = set marks w (bitOr (getD marks w 0) (2 ^ j))
+
 unfoldable pub withMark : List ℕ → ℕ → List ℕ
-withMark marks c = set marks (c / MARK_BITS) (bitOr (getD marks (c / MARK_BITS) 0) (2 ^ (c % MARK_BITS)))
+withMark marks c = withBit (withBit marks (c / MARK_BITS) (c % MARK_BITS)) MARK_WORDS (c / MARK_BITS)
 
 unfoldable pub marked : List ℕ → List ℕ → List ℕ
 marked marks [] = marks
 marked marks (c ∷ cs) = marked (withMark marks c) cs
+
+-- the last word tells the truth: a word that it does not name has no mark
+pub record Summed (marks : List ℕ) : Type 0 where
+  pub small : getD marks MARK_WORDS 0 < 2 ^ MARK_WORDS
+  pub unnamed : (w : ℕ) → w < MARK_WORDS → bit (getD marks MARK_WORDS 0) w ≡ false → getD marks w 0 ≡ 0
 
 -- the marked numbers, rising
 unfoldable pub markedNumbers : List ℕ → List ℕ

@@ -17,7 +17,7 @@ ghost use Rattle.pages.specs.Layout.{noEntry, page, tableIn};
 ghost use Rattle.query.specs.Admission.{codeY, codeX};
 ghost use Rattle.query.specs.Opening.{openedUnder, openedPages};
 ghost use Rattle.query.specs.Calls.{refusalFrom, querySound, queryCall, OpenedWords, frontOf};
-ghost use Rattle.query.specs.Steps.{SoundPage, openedListed, frameOf, referenceOf, windowOf, windowFor, beyond, Known, admitsBy, opensBy, admittedR, hitsUnder, hitsFrom, MARK_BITS, withMark, marked, markedNumbers};
+ghost use Rattle.query.specs.Steps.{SoundPage, openedListed, frameOf, referenceOf, windowOf, windowFor, beyond, Known, admitsBy, opensBy, admittedR, hitsUnder, hitsFrom, MARK_BITS, withMark, marked, Summed, markedNumbers};
 use pages::Entry;
 use pages::Rect;
 use relations::CODES;
@@ -25,6 +25,9 @@ use relations::CODES;
 const MARK_BITS: u32 = 64;
 
 const MARK_WORDS: usize = 16;
+
+// The words of marks and, behind them, one whose bit w says that word w has a mark.
+const MARKS: usize = MARK_WORDS + 1;
 
 // A walk carries a frame: the reference's four edges, then those of the window, beyond which nothing passes a test. It is
 // lent as an array, since a struct is copied by every call.
@@ -204,12 +207,13 @@ fn opens(
     relations::page_test(below, masks, cy, cx)
 }
 
-fn mark(marks: &mut [u64; MARK_WORDS], r: u32)
+fn mark(marks: &mut [u64; MARKS], r: u32)
     requires { ⌜ r < PIECES ⌝ }
     ensures { λ _. ⌜ now (marks .exit) ≡ withMark (now (marks .entry)) r ⌝ }
 {
     let at = (r / MARK_BITS) as usize;
     marks[at] |= 1u64 << (r % MARK_BITS);
+    marks[MARK_WORDS] |= 1u64 << at;
 }
 
 // Marks the admitted pieces of a leaf.
@@ -219,7 +223,7 @@ fn mark_leaf(
     whole: bool,
     rows: &[u16; CODES],
     p: usize,
-    marks: &mut [u64; MARK_WORDS],
+    marks: &mut [u64; MARKS],
 )
     requires { ⌜ SoundPage (now table) p 0 × Known (now frame) whole (admitsBy (now rows)) ⌝ }
     ensures { λ _. ⌜ now (marks .exit) ≡ marked (now (marks .entry)) (concatMap (admittedR (admitsBy (now (rows .entry)) (referenceOf (now (frame .entry))))) (page (tableIn (now (table .entry))) p .entries)) ⌝ }
@@ -241,7 +245,7 @@ fn walk(
     frame: &[u32; FRAME_WORDS],
     level: usize,
     p: usize,
-    marks: &mut [u64; MARK_WORDS],
+    marks: &mut [u64; MARKS],
     whole: bool,
     rows: &[u16; CODES],
     below: &[u16; CODES],
@@ -333,14 +337,17 @@ fn list_word(word: u64, base: usize, answer: &mut [u16], at: usize) -> usize
     next
 }
 
-// Writes the marked numbers, rising.
-fn list_marks(marks: &[u64; MARK_WORDS], answer: &mut [u16]) -> usize
-    requires { ⌜ length (markedNumbers (now marks)) ≤ length (now answer) ⌝ }
+// Writes the marked numbers, rising; a word without a mark is passed over.
+fn list_marks(marks: &[u64; MARKS], answer: &mut [u16]) -> usize
+    requires { ⌜ Summed (now marks) × (length (markedNumbers (now marks)) ≤ length (now answer)) ⌝ }
     ensures { λ r. ⌜ (r ≡ length (markedNumbers (now (marks .entry)))) × (now (answer .exit) ≡ sets (now (answer .entry)) 0 (markedNumbers (now (marks .entry)))) ⌝ }
 {
     let mut next: usize = 0;
-    for w in 0..MARK_WORDS {
+    let mut rest: u16 = marks[MARK_WORDS] as u16;
+    while rest != 0 {
+        let w = u16::trailing_zeros(rest) as usize;
         next = list_word(marks[w], MARK_BITS as usize * w, answer, next);
+        rest -= 1u16 << w;
     }
     next
 }
@@ -361,7 +368,7 @@ fn level_of(table: &[u32], p: usize) -> usize
 }
 
 // Walks from the root: marks the admitted pieces, and gives the number of opened pages.
-fn search(table: &[u32], reference: Rect, rows: &[u16; CODES], marks: &mut [u64; MARK_WORDS]) -> u32
+fn search(table: &[u32], reference: Rect, rows: &[u16; CODES], marks: &mut [u64; MARKS]) -> u32
     requires { ⌜ (TABLE_WORDS ≤ length (now table)) × T (sound (now table)) × T (valid reference) ⌝ }
     ensures { λ r. ⌜ (r ≡ length (openedPages (opensBy (joinedOf (now (rows .entry))) reference) (tableIn (now (table .entry)))))
         × (now (marks .exit) ≡ marked (now (marks .entry)) (hitsFrom (admitsBy (now (rows .entry)) reference) (opensBy (joinedOf (now (rows .entry))) reference) (tableIn (now (table .entry))))) ⌝ }
@@ -438,7 +445,7 @@ pub fn query_sound(table: &[u32], reference: Rect, clauses: &[u64], answer: &mut
     }
     // The rows alone are lent on, so that the count, which a query does not need, is never made.
     let rows = set.rows;
-    let mut marks = [0u64; MARK_WORDS];
+    let mut marks = [0u64; MARKS];
     let opened = search(table, reference, &rows, &mut marks);
     let hits = list_marks(&marks, answer);
     Answer {

@@ -18,9 +18,9 @@ even n e = bit-zero n ∙ rw e
 pub odd : (n : ℕ) → n % 2 ≡ 1 → bit n 0 ≡ true
 odd n e = bit-zero n ∙ rw e
 
--- a word with one bit
-pub one-shifted : (j : ℕ) → j < 64 → 1 * 2 ^ j % 18446744073709551616 ≡ 2 ^ j
-one-shifted j l = rw one-mul (mod-eq-of-lt (pow-lt l))
+-- a word of k bits with one of them set
+pub one-shifted : (k j : ℕ) → j < k → 1 * 2 ^ j % 2 ^ k ≡ 2 ^ j
+one-shifted k j l = rw one-mul (mod-eq-of-lt (pow-lt l))
 
 pub ones-none : (b k : ℕ) → onesFrom b k 0 ≡ []
 unfolding onesFrom
@@ -56,23 +56,23 @@ lowest-at (suc k) n z l = go (n % 2) refl (λ y. lowest-at k (n / 2) y (omega (a
     go (suc (suc d)) e r = absurd (omega arith)
 
 -- the lowest one alone, as the sources make it
-abbrev pub lowestOne : ℕ → ℕ
-lowestOne n = 1 * 2 ^ trailingZeros 64 n % 18446744073709551616
+abbrev pub lowestOne : ℕ → ℕ → ℕ
+lowestOne k n = 1 * 2 ^ trailingZeros k n % 2 ^ k
 
--- of a word that is not 0
-pub record Lowest (n : ℕ) : Type 0 where
-  pub place : trailingZeros 64 n < 64
-  pub small : lowestOne n ≤ n
-  pub less : n - lowestOne n < n
-  pub first : (b : ℕ) → onesFrom b 64 n ≡ (b + trailingZeros 64 n) ∷ onesFrom b 64 (n - lowestOne n)
+-- of a word of k bits that is not 0
+pub record Lowest (k n : ℕ) : Type 0 where
+  pub place : trailingZeros k n < k
+  pub small : lowestOne k n ≤ n
+  pub less : n - lowestOne k n < n
+  pub first : (b : ℕ) → onesFrom b k n ≡ (b + trailingZeros k n) ∷ onesFrom b k (n - lowestOne k n)
 
-pub lowest : (n : ℕ) → n ≢ 0 → n < 2 ^ 64 → Lowest n
-lowest n z l =
-    let r = lowest-at 64 n z l in
-    let e = one-shifted (trailingZeros 64 n) (r .0) in
+pub lowest : (k n : ℕ) → n ≢ 0 → n < 2 ^ k → Lowest k n
+lowest k n z l =
+    let r = lowest-at k n z l in
+    let e = one-shifted k (trailingZeros k n) (r .0) in
     record {
       place = r .0;
       small = omega (arith, e, r .1);
-      less = omega (arith, e, r .1, pow-pos (trailingZeros 64 n));
+      less = omega (arith, e, r .1, pow-pos (trailingZeros k n));
       first = λ b. r .2 b ∙ rw e;
     }

@@ -131,9 +131,9 @@ module _ (clause : ℕ) where
       ∙ listed-same _ _ CODES (λ h _. packed-same _ _ CODES (λ k _. none-above _ RELATIONS 24 (λ u l. rw (no-relation u (suc h) (suc k) l, and-false))))
 
 -- the lowest one first
-pub gather-lowest : (rows now : List ℕ) (n : ℕ) → n ≢ 0 → n < 2 ^ 64 → now ≡ withRelation rows (trailingZeros 64 n) → gathered now (onesFrom 0 64 (n - lowestOne n)) ≡ gathered rows (onesFrom 0 64 n)
+pub gather-lowest : (rows now : List ℕ) (n : ℕ) → n ≢ 0 → n < 2 ^ 64 → now ≡ withRelation rows (trailingZeros 64 n) → gathered now (onesFrom 0 64 (n - lowestOne 64 n)) ≡ gathered rows (onesFrom 0 64 n)
 unfolding gathered
-gather-lowest rows now n z l e = rw (e, lowest n z l .first 0, zero-add)
+gather-lowest rows now n z l e = rw (e, lowest 64 n z l .first 0, zero-add)
 
 pub gather-end : (rows : List ℕ) (n : ℕ) → n ≡ 0 → rows ≡ gathered rows (onesFrom 0 64 n)
 unfolding gathered

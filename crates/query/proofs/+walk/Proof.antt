@@ -1,7 +1,6 @@
 -- By the level: the count and the marks before entry i are those of the entries passed.
 use borrow.Author.Needs.{needs}
 use Prim.Native.Nat.{_≤_, _+_, _-_, ℕ, _<_}
-use native.Mathlib.Nat.{add-zero}
 use native.Mathlib.Omega.{arith}
 use mathlib.Core.Path.{_≡_, refl, sym, ap, _∙_}
 use mathlib.Core.Logic.{⊎-elim}
@@ -10,7 +9,7 @@ use Rattle.pages.specs.Sizes.{PAGES}
 use Rattle.pages.specs.Layout.{page, tableIn}
 use Rattle.query.specs.Steps.{referenceOf, admitsBy, opensBy, marked}
 use Rattle.query.proofs.Reading.{leaf-page, child-page, same-page}
-use Rattle.query.proofs.Walking.{Marking, opened-one, opened-leaf, hits-leaf, child-room, marking-open, marking-shut, count-end, marks-end}
+use Rattle.query.proofs.Walking.{Marking, opened-leaf, hits-leaf, child-room, marking-open, marking-shut, count-end, marks-end}
 use borrow.Fn.Kinds.{In}
 use borrow.Fn.PlainCycle.{Measures, is, falls, and}
 use Rattle.query.proofs.walk.Reads as walk

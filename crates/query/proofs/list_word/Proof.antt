@@ -26,10 +26,10 @@ cast-answer : tie.Need-cast-answer Inv-loop μ-loop
 cast-answer c = omega (arith, trailing-le 64 (c .before .loop .rest))
 
 add-answer : tie.Need-add-answer Inv-loop μ-loop
-add-answer c = omega (arith, lowest _ (c .loop-test .taken) (c .before .loop .inv .0) .place)
+add-answer c = omega (arith, lowest 64 _ (c .loop-test .taken) (c .before .loop .inv .0) .place)
 
 cast-answer-2 : tie.Need-cast-answer-2 Inv-loop μ-loop
-cast-answer-2 c = omega (arith, lowest _ (c .loop-test .taken) (c .before .loop .inv .0) .place)
+cast-answer-2 c = omega (arith, lowest 64 _ (c .loop-test .taken) (c .before .loop .inv .0) .place)
 
 mul-answer : tie.Need-mul-answer Inv-loop μ-loop
 mul-answer c = search needs
@@ -46,13 +46,13 @@ cast-rest : tie.Need-cast-rest Inv-loop μ-loop
 cast-rest c = omega (arith, trailing-le 64 (c .before .loop .rest))
 
 shl-rest : tie.Need-shl-rest Inv-loop μ-loop
-shl-rest c = lowest _ (c .loop-test .taken) (c .before .loop .inv .0) .place
+shl-rest c = lowest 64 _ (c .loop-test .taken) (c .before .loop .inv .0) .place
 
 sub-rest : tie.Need-sub-rest Inv-loop μ-loop
-sub-rest c = lowest _ (c .loop-test .taken) (c .before .loop .inv .0) .small
+sub-rest c = lowest 64 _ (c .loop-test .taken) (c .before .loop .inv .0) .small
 
 loop-less : tie.Need-loop-less Inv-loop μ-loop
-loop-less c = lowest _ (c .loop-test .taken) (c .before .loop .inv .0) .less
+loop-less c = lowest 64 _ (c .loop-test .taken) (c .before .loop .inv .0) .less
 
 loop-again : tie.Need-loop-again Inv-loop μ-loop
 loop-again c =

@@ -1,6 +1,6 @@
--- One bit of one word.
+-- One bit of one word, and that word's bit in the last one.
 use borrow.Author.Needs.{needs}
-use Prim.Native.Nat.{_%_}
+use Prim.Native.Nat.{_/_, _%_}
 use native.Mathlib.Omega.{arith}
 use Rattle.relations.proofs.Lowest.{one-shifted}
 use Rattle.query.specs.Steps.{withMark}
@@ -25,9 +25,20 @@ element-copy-out-marks c = search needs
 element-write-marks : tie.Need-element-write-marks
 element-write-marks c = search needs
 
+shl-marks-2 : tie.Need-shl-marks-2
+shl-marks-2 c = search needs
+
+element-copy-out-marks-2 : tie.Need-element-copy-out-marks-2
+element-copy-out-marks-2 c = search needs
+
+element-write-marks-2 : tie.Need-element-write-marks-2
+element-write-marks-2 c = search needs
+
 returns : tie.Need-returns
 unfolding withMark
-returns c = rw (one-shifted (c .before .args .r % 64) (omega arith))
+returns c =
+    let r = c .before .before .args .r in
+    rw (one-shifted 64 (r % 64) (omega arith), one-shifted 64 (r / 64) (omega arith))
 
 pub mark-spec : {M : Type 1} → statement M
 mark-spec =
@@ -39,4 +50,7 @@ mark-spec =
     mul-marks
     element-copy-out-marks
     element-write-marks
+    shl-marks-2
+    element-copy-out-marks-2
+    element-write-marks-2
     returns)

@@ -35,7 +35,8 @@ list-marks-requires c κs =
     let g = c .before .before .before .before .before .before .before .before .before .before .before .before .before .before in
     let s = c .before .before .before .before .before .before .before .before .before .before .admitted .ensures in
     let e = query-refusal _ (g .pre .0) _ _ _ _ _ _ s (c .before .before .before .before .before .before .before .refused .ensures) (c .before .before .before .before .before .before .before .before .to-index .ensures) in
-    query-lists _ (g .pre .1) _ _ _ (g .args .answer .now) _ s (sym e ∙ c .before .before .before .before .before .before .if1 .left) (c .before .before .search .ensures .1) .room
+    let k = query-lists _ (g .pre .1) _ _ _ (g .args .answer .now) _ s (sym e ∙ c .before .before .before .before .before .before .if1 .left) (c .before .before .search .ensures .1) in
+    (k .summed, k .room)
 
 cast-t14 : tie.Need-cast-t14
 cast-t14 c =

@@ -32,13 +32,13 @@ cast-rest : tie.Need-cast-rest Inv-loop μ-loop
 cast-rest c = omega (arith, trailing-le 64 (c .before .before .before .loop .rest))
 
 shl-rest : tie.Need-shl-rest Inv-loop μ-loop
-shl-rest c = lowest _ (c .before .before .loop-test .taken) (c .before .before .before .loop .inv .0) .place
+shl-rest c = lowest 64 _ (c .before .before .loop-test .taken) (c .before .before .before .loop .inv .0) .place
 
 sub-rest : tie.Need-sub-rest Inv-loop μ-loop
-sub-rest c = lowest _ (c .before .before .loop-test .taken) (c .before .before .before .loop .inv .0) .small
+sub-rest c = lowest 64 _ (c .before .before .loop-test .taken) (c .before .before .before .loop .inv .0) .small
 
 loop-less : tie.Need-loop-less Inv-loop μ-loop
-loop-less c = lowest _ (c .before .before .loop-test .taken) (c .before .before .before .loop .inv .0) .less
+loop-less c = lowest 64 _ (c .before .before .loop-test .taken) (c .before .before .before .loop .inv .0) .less
 
 loop-again : tie.Need-loop-again Inv-loop μ-loop
 loop-again c =
