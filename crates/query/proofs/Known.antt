@@ -2,7 +2,7 @@
 use Prim.Native.Nat.{ℕ, _+_, _-_, _<_, _≤_}
 use native.Mathlib.Omega.{arith}
 use mathlib.Core.Path.{_≡_, refl, sym, ap, _∙_}
-use mathlib.Core.Logic.{_⊎_, inl, inr}
+use mathlib.Core.Logic.{_⊎_, inl, inr, ⊎-map}
 use mathlib.Core.Bool.{Bool, true, false, _||_, cond}
 use mathlib.Core.List.{List}
 use lib.Dec.{T, ltb}
@@ -29,19 +29,14 @@ data Side (w p : Rect) : Type 0 where
 
 side : (w p : Rect) → beyond w p ≡ true → Side w p
 unfolding beyond
-side w p e = go (either _ _ e)
+side w p e = go (either (ltb (w .y2) (p .y1) || ltb (p .y2) (w .y1)) _ e)
   where
-    last : (ltb (w .x2) (p .x1) ≡ true) ⊎ (ltb (p .x2) (w .x1) ≡ true) → Side w p
-    last (inl h) = on-x (inl (ltb-true _ _ h))
-    last (inr h) = on-x (inr (ltb-true _ _ h))
+    one-of : (a b c d : ℕ) → (ltb a b || ltb c d) ≡ true → (a < b) ⊎ (c < d)
+    one-of a b c d h = ⊎-map (ltb-true a b) (ltb-true c d) (either (ltb a b) (ltb c d) h)
 
-    next : (ltb (p .y2) (w .y1) ≡ true) ⊎ ((ltb (w .x2) (p .x1) || ltb (p .x2) (w .x1)) ≡ true) → Side w p
-    next (inl h) = on-y (inr (ltb-true _ _ h))
-    next (inr h) = last (either _ _ h)
-
-    go : (ltb (w .y2) (p .y1) ≡ true) ⊎ ((ltb (p .y2) (w .y1) || (ltb (w .x2) (p .x1) || ltb (p .x2) (w .x1))) ≡ true) → Side w p
-    go (inl h) = on-y (inl (ltb-true _ _ h))
-    go (inr h) = next (either _ _ h)
+    go : ((ltb (w .y2) (p .y1) || ltb (p .y2) (w .y1)) ≡ true) ⊎ ((ltb (w .x2) (p .x1) || ltb (p .x2) (w .x1)) ≡ true) → Side w p
+    go (inl h) = on-y (one-of (w .y2) (p .y1) (p .y2) (w .y1) h)
+    go (inr h) = on-x (one-of (w .x2) (p .x1) (p .x2) (w .x1) h)
 
 -- what lies beyond on no side
 record In (w p : Rect) : Type 0 where
@@ -53,11 +48,11 @@ record In (w p : Rect) : Type 0 where
 within : (w p : Rect) → beyond w p ≡ false → In w p
 unfolding beyond
 within w p e =
-    let f : (ltb (p .y2) (w .y1) || (ltb (w .x2) (p .x1) || ltb (p .x2) (w .x1))) ≡ false = or-right (ltb (w .y2) (p .y1)) _ e in
-    let g : (ltb (w .x2) (p .x1) || ltb (p .x2) (w .x1)) ≡ false = or-right (ltb (p .y2) (w .y1)) _ f in
+    let f : (ltb (w .y2) (p .y1) || ltb (p .y2) (w .y1)) ≡ false = or-left _ _ e in
+    let g : (ltb (w .x2) (p .x1) || ltb (p .x2) (w .x1)) ≡ false = or-right (ltb (w .y2) (p .y1) || ltb (p .y2) (w .y1)) _ e in
     record {
-      y-low = ltb-false _ _ (or-left _ _ e);
-      y-high = ltb-false _ _ (or-left _ _ f);
+      y-low = ltb-false _ _ (or-left _ _ f);
+      y-high = ltb-false _ _ (or-right (ltb (w .y2) (p .y1)) _ f);
       x-low = ltb-false _ _ (or-left _ _ g);
       x-high = ltb-false _ _ (or-right (ltb (w .x2) (p .x1)) _ g);
     }

@@ -48,7 +48,7 @@ windowFor q near inner = cond inner (rectOf (q .x1 + 1) (q .y1 + 1) (q .x2 - 1) 
 
 -- p lies beyond q on one of its sides
 unfoldable pub beyond : Rect → Rect → Bool
-beyond q p = ltb (q .y2) (p .y1) || (ltb (p .y2) (q .y1) || (ltb (q .x2) (p .x1) || ltb (p .x2) (q .x1)))
+beyond q p = (ltb (q .y2) (p .y1) || ltb (p .y2) (q .y1)) || (ltb (q .x2) (p .x1) || ltb (p .x2) (q .x1))
 
 -- the frame of a valid reference: what lies beyond its window fails the test, and where `whole` holds all else passes it
 pub record Known (f : List ℕ) (whole : Bool) (test : Rect → Rect → Bool) : Type 0 where

@@ -133,20 +133,14 @@ fn framed(q: Rect, below: &[u16; CODES], masks: &[u16; CODES]) -> [u32; FRAME_WO
     [q.x1, q.y1, q.x2, q.y2, w.x1, w.y1, w.x2, w.y2]
 }
 
-// Whether a rectangle lies beyond the window on one of its sides.
+// Whether a rectangle lies beyond the window on one of its sides: the four tests without a branch, which the compiler makes at
+// once where no code is asked afterwards.
 fn is_beyond(frame: &[u32; FRAME_WORDS], rect: Rect) -> bool
     ensures { λ r. ⌜ r ≡ beyond (windowOf (now (frame .entry))) rect ⌝ }
 {
-    if rect.y1 > frame[WINDOW_Y2] {
-        return true;
-    }
-    if rect.y2 < frame[WINDOW_Y1] {
-        return true;
-    }
-    if rect.x1 > frame[WINDOW_X2] {
-        return true;
-    }
-    rect.x2 < frame[WINDOW_X1]
+    let over_y = (rect.y1 > frame[WINDOW_Y2]) | (rect.y2 < frame[WINDOW_Y1]);
+    let over_x = (rect.x1 > frame[WINDOW_X2]) | (rect.x2 < frame[WINDOW_X1]);
+    over_y | over_x
 }
 
 fn code_y(frame: &[u32; FRAME_WORDS], rect: Rect) -> usize
