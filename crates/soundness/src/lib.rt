@@ -191,9 +191,10 @@ fn not_good() -> Visit
     }
 }
 
-// The walk from page p, at a level, to all that is under it. Each entry is read one time.
+// The walk from page p, at a level, to all that is under it. Each entry is read one time. The table is lent by a reference to
+// its slice, since a slice itself is copied by every call.
 fn walk(
-    table: &[u32],
+    table: &&[u32],
     k: u32,
     level: u32,
     least: u32,
@@ -201,13 +202,13 @@ fn walk(
     seen: &mut [u8; pages::PAGES],
     numbers: &mut [u8; NUMBERS],
 ) -> Visit
-    requires { ⌜ (TABLE_WORDS ≤ length (now table)) × (k ≡ length (tableIn (now table) .pages)) × (k ≤ PAGES) ⌝ }
-    ensures { λ r. ⌜ Visited (now (table .entry)) level least p (now (seen .entry)) (now (numbers .entry)) r (now (seen .exit)) (now (numbers .exit)) ⌝ }
+    requires { ⌜ (TABLE_WORDS ≤ length (now (now table))) × (k ≡ length (tableIn (now (now table)) .pages)) × (k ≤ PAGES) ⌝ }
+    ensures { λ r. ⌜ Visited (now (now (table .entry))) level least p (now (seen .entry)) (now (numbers .entry)) r (now (seen .exit)) (now (numbers .exit)) ⌝ }
 {
-    if !enter(table, k, level, least, p, seen) {
+    if !enter(*table, k, level, least, p, seen) {
         return not_good();
     }
-    let page = pages::page_of(table, p as usize);
+    let page = pages::page_of(*table, p as usize);
     let n = page[pages::COUNT] as usize;
     if level == 0 {
         return leaf(page, n, numbers);
@@ -243,7 +244,7 @@ fn is_sound_from(table: &[u32], k: u32, root: u32, level: u32) -> bool
     let mut seen = [0u8; pages::PAGES];
     let mut numbers = [0u8; NUMBERS];
     let least = root_fewest(level);
-    let all = walk(table, k, level, least, root, &mut seen, &mut numbers);
+    let all = walk(&table, k, level, least, root, &mut seen, &mut numbers);
     if !all.good {
         return false;
     }
