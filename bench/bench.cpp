@@ -1,5 +1,5 @@
 // Times of the finder's calls beside a linear scan, the Rust model, Boost.Geometry's R-tree and libspatialindex, in one run.
-// Each figure is the best of ROUNDS rounds; the finder's answers are compared with the scan's, and every side sorts by number.
+// Each figure is the best of ROUNDS rounds in each of LAPS turns; the finder's answers are compared with the scan's, and every side sorts by number.
 #include <algorithm>
 #include <chrono>
 #include <cmath>
@@ -41,6 +41,7 @@ struct Rect {
 using Rects = std::vector<Rect>;
 
 static const int ROUNDS = 15;
+static const int LAPS = 6;
 static const uint32_t EDGE = FINDER_EDGE;
 static const uint32_t PIECES = FINDER_PIECES;
 static const int REFERENCES = 64;
@@ -63,6 +64,19 @@ static double best_of(const std::function<void()> &run, int each) {
         auto end = std::chrono::steady_clock::now();
         best = std::min(best, std::chrono::duration<double, std::nano>(end - start).count() / each);
     }
+    return best;
+}
+
+struct Timed {
+    std::function<void()> run;
+    int each;
+};
+
+// The best of each side over LAPS turns, all sides in every turn, so that a slow while of the machine meets all of them.
+static std::vector<double> side_by_side(const std::vector<Timed> &sides) {
+    std::vector<double> best(sides.size(), 1e99);
+    for (int lap = 0; lap < LAPS; lap++)
+        for (size_t i = 0; i < sides.size(); i++) best[i] = std::min(best[i], best_of(sides[i].run, sides[i].each));
     return best;
 }
 
@@ -255,23 +269,6 @@ static void query_row(const char *data, const Rects &rects, const Wish &wish, co
         scan(rects, set, q, found);
         if (a.refusal || a.hits != found.size() || !std::equal(found.begin(), found.end(), answer.begin())) fail("finder and scan");
     }
-    auto full = best_of([&] { for (auto &q : refs) sink += ask(q, wish.clauses, answer).hits; }, REFERENCES);
-    auto inner = best_of([&] {
-        sink += bench_queries(table.data(), table.size(), words.data(), words.size(), wish.clauses.data(), wish.clauses.size(), answer.data(), answer.size());
-    }, REFERENCES * TURNS);
-    auto linear = best_of([&] {
-        for (auto &q : refs) {
-            scan(rects, set, q, found);
-            sink += found.size();
-        }
-    }, REFERENCES);
-    auto model = best_of([&] {
-        for (auto &q : refs) {
-            uint32_t h;
-            model_query(table.data(), table.size(), q.x1, q.y1, q.x2, q.y2, wish.clauses.data(), wish.clauses.size(), answer.data(), answer.size(), &h);
-            sink += h;
-        }
-    }, REFERENCES);
     auto ask_boost = [&](const finder_admitted &admissible, const Rect &q) {
         values.clear();
         found.clear();
@@ -281,9 +278,24 @@ static void query_row(const char *data, const Rects &rects, const Wish &wish, co
         std::sort(found.begin(), found.end());
         sink += found.size();
     };
-    auto by_boost = best_of([&] { for (auto &q : refs) ask_boost(set, q); }, REFERENCES);
-    auto with_set = best_of([&] { for (auto &q : refs) ask_boost(finder_admitted_set(wish.clauses.data(), wish.clauses.size()), q); }, REFERENCES);
-    auto by_library = best_of([&] {
+    auto full = [&] { for (auto &q : refs) sink += ask(q, wish.clauses, answer).hits; };
+    auto inner = [&] {
+        sink += bench_queries(table.data(), table.size(), words.data(), words.size(), wish.clauses.data(), wish.clauses.size(), answer.data(), answer.size());
+    };
+    auto linear = [&] {
+        for (auto &q : refs) {
+            scan(rects, set, q, found);
+            sink += found.size();
+        }
+    };
+    auto model = [&] {
+        for (auto &q : refs) {
+            uint32_t h;
+            model_query(table.data(), table.size(), q.x1, q.y1, q.x2, q.y2, wish.clauses.data(), wish.clauses.size(), answer.data(), answer.size(), &h);
+            sink += h;
+        }
+    };
+    auto by_library = [&] {
         for (auto &q : refs) {
             found.clear();
             Collect c(rects, set, q, found);
@@ -291,9 +303,12 @@ static void query_row(const char *data, const Rects &rects, const Wish &wish, co
             std::sort(found.begin(), found.end());
             sink += found.size();
         }
-    }, REFERENCES);
-    printf("| %s | %s | %.1f | %.0f | %.0f | %.0f | %.0f | %.0f | %.0f | %.0f | %.2f | %.2f |\n", data, wish.name, (double)hits / REFERENCES, full, inner,
-           linear, model, by_library, by_boost, with_set, inner / by_boost, inner / with_set);
+    };
+    auto by_boost = [&] { for (auto &q : refs) ask_boost(set, q); };
+    auto with_set = [&] { for (auto &q : refs) ask_boost(finder_admitted_set(wish.clauses.data(), wish.clauses.size()), q); };
+    auto ns = side_by_side({{full, REFERENCES}, {inner, REFERENCES * TURNS}, {linear, REFERENCES}, {model, REFERENCES}, {by_library, REFERENCES}, {by_boost, REFERENCES}, {with_set, REFERENCES}});
+    printf("| %s | %s | %.1f | %.0f | %.0f | %.0f | %.0f | %.0f | %.0f | %.0f | %.2f | %.2f |\n", data, wish.name, (double)hits / REFERENCES, ns[0], ns[1], ns[2],
+           ns[3], ns[4], ns[5], ns[6], ns[1] / ns[5], ns[1] / ns[6]);
 }
 
 static void queries(const char *data, const Rects &rects) {
@@ -309,15 +324,16 @@ static void queries(const char *data, const Rects &rects) {
 static void placing(const char *data, const Rects &rects, double pass) {
     auto calls = calls_of(rects);
     std::vector<uint32_t> refusals(rects.size());
-    auto full = best_of([&] {
+    auto full = [&] {
         finder_empty(table.data(), table.size());
         for (uint32_t i = 0; i < rects.size(); i++)
             sink += finder_place(table.data(), table.size(), i, rects[i].x1, rects[i].y1, rects[i].x2, rects[i].y2);
-    }, PIECES);
-    auto inner = best_of([&] { sink += bench_replay(table.data(), table.size(), calls.data(), calls.size(), refusals.data(), refusals.size()); }, PIECES);
-    auto by_boost = best_of([&] { sink += boost_tree(rects).size(); }, PIECES);
-    auto by_library = best_of([&] { Library l(rects); }, PIECES);
-    printf("| %s | %.0f | %.1f | %.0f | %.0f | %.0f | %.2f |\n", data, full, full / pass, inner, by_boost, by_library, inner / by_boost);
+    };
+    auto inner = [&] { sink += bench_replay(table.data(), table.size(), calls.data(), calls.size(), refusals.data(), refusals.size()); };
+    auto by_boost = [&] { sink += boost_tree(rects).size(); };
+    auto by_library = [&] { Library l(rects); };
+    auto ns = side_by_side({{full, (int)PIECES}, {inner, (int)PIECES}, {by_boost, (int)PIECES}, {by_library, (int)PIECES}});
+    printf("| %s | %.0f | %.1f | %.0f | %.0f | %.0f | %.2f |\n", data, ns[0], ns[0] / pass, ns[1], ns[2], ns[3], ns[1] / ns[2]);
 }
 
 // ---- one pass, check, empty ----
@@ -335,7 +351,7 @@ static double one_pass() {
 
 static void passes(const char *data, const Rects &rects, double pass) {
     build(rects);
-    auto check = best_of([&] { for (int k = 0; k < 50; k++) sink += finder_check(table.data(), table.size()).pieces; }, 50);
+    auto check = side_by_side({{[&] { for (int k = 0; k < 50; k++) sink += finder_check(table.data(), table.size()).pieces; }, 50}})[0];
     printf("| %s | %u | %.0f | %.2f |\n", data, table[0], check, check / pass);
 }
 
