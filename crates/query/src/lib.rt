@@ -240,10 +240,10 @@ fn walk(
     level: usize,
     p: usize,
     marks: &mut [u64; MARKS],
-    whole: bool,
-    rows: &[u16; CODES],
     below: &[u16; CODES],
     masks: &[u16; CODES],
+    rows: &[u16; CODES],
+    whole: bool,
 ) -> u32
     requires { ⌜ SoundPage (now (now table)) p level × (length (openedUnder (opensBy (now below) (referenceOf (now frame))) (tableIn (now (now table)) .pages) level p) ≤ PAGES) × Known (now frame) whole (admitsBy (now rows)) × Known (now frame) whole (opensBy (now below)) × (now masks ≡ nodeMasks) ⌝ }
     ensures { λ r. ⌜ (r ≡ length (openedUnder (opensBy (now (below .entry)) (referenceOf (now (frame .entry)))) (tableIn (now (now (table .entry))) .pages) level p))
@@ -264,10 +264,10 @@ fn walk(
                 level - 1,
                 to_index(e.r),
                 marks,
-                whole,
-                rows,
                 below,
                 masks,
+                rows,
+                whole,
             );
         }
     }
@@ -379,10 +379,10 @@ fn search(table: &[u32], reference: Rect, rows: &[u16; CODES], marks: &mut [u64;
         level,
         root,
         marks,
-        whole,
-        rows,
         &below,
         &masks,
+        rows,
+        whole,
     )
 }
 

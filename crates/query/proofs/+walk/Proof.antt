@@ -36,12 +36,12 @@ abbrev walk-cs : ℕ → walk-lts.Claims
 walk-cs t = (mark-leaf-reads.Asked, mark-leaf-reads.Learnt, size-of-reads.Asked, size-of-reads.Learnt, entry-at-reads.Asked, entry-at-reads.Learnt, opens-reads.Asked, opens-reads.Learnt, to-index-reads.Asked, to-index-reads.Learnt, walk-below t, walk.Post)
 
 abbrev walk-Inv-loop : walk-lts.InvT-loop
-walk-Inv-loop table frame level p marks₀ whole rows below masks count₀ n i₀ marks count i =
+walk-Inv-loop table frame level p marks₀ below masks rows whole count₀ n i₀ marks count i =
     (n ≡ length (page (tableIn (table .now)) p .entries)) × (i ≤ n)
     × Marking (admitsBy rows (referenceOf frame)) (opensBy below (referenceOf frame)) (tableIn (table .now) .pages) (level - 1) (page (tableIn (table .now)) p .entries) i 1 count marks₀ marks
 
 abbrev walk-μ-loop : walk-lts.MeasureT-loop
-walk-μ-loop table frame level p marks₀ whole rows below masks count₀ n i₀ marks count i = n - i
+walk-μ-loop table frame level p marks₀ below masks rows whole count₀ n i₀ marks count i = n - i
 
 walk-mark-leaf-requires : (t : ℕ) → walk-lts.Need-mark-leaf-requires (walk-cs t) (walk-at t) walk.Post walk-Inv-loop walk-μ-loop
 walk-mark-leaf-requires t c κs =
