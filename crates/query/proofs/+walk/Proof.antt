@@ -1,6 +1,6 @@
 -- By the level: the count and the marks before entry i are those of the entries passed.
 use borrow.Author.Needs.{needs}
-use Prim.Native.Nat.{_≤_, _+_, _-_, ℕ, _<_}
+use Prim.Native.Nat.{_≤_, _-_, ℕ, _<_}
 use native.Mathlib.Omega.{arith}
 use mathlib.Core.Path.{_≡_, refl, sym, ap, _∙_}
 use mathlib.Core.Logic.{⊎-elim}
