@@ -157,7 +157,7 @@ fn code_x(frame: &[u32; FRAME_WORDS], rect: Rect) -> usize
     relations::axis_code(rect.x1, rect.x2, frame[X1], frame[X2])
 }
 
-// Whether a piece's rectangle is admitted: by its codes where the window does not decide.
+// Whether a piece's rectangle is admitted. Where the window does not decide most fail on y, where their row is empty.
 fn admits(rows: &[u16; CODES], frame: &[u32; FRAME_WORDS], whole: bool, rect: Rect) -> bool
     requires { ⌜ Known (now frame) whole (admitsBy (now rows)) ⌝ }
     ensures { λ r. ⌜ r ≡ admitsBy (now (rows .entry)) (referenceOf (now (frame .entry))) rect ⌝ }
@@ -169,11 +169,14 @@ fn admits(rows: &[u16; CODES], frame: &[u32; FRAME_WORDS], whole: bool, rect: Re
         return true;
     }
     let i = code_y(frame, rect);
+    if rows[i - 1] == 0 {
+        return false;
+    }
     let j = code_x(frame, rect);
     relations::leaf_test(rows, i, j)
 }
 
-// Whether a page's rectangle may hold an admitted one.
+// Whether a page's rectangle may hold an admitted one; y first, as above.
 fn opens(
     below: &[u16; CODES],
     masks: &[u16; CODES],
@@ -191,6 +194,9 @@ fn opens(
         return true;
     }
     let cy = code_y(frame, rect);
+    if below[cy - 1] == 0 {
+        return false;
+    }
     let cx = code_x(frame, rect);
     relations::page_test(below, masks, cy, cx)
 }
