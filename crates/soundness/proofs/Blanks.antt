@@ -3,8 +3,8 @@ use Prim.Native.Nat.{ℕ, _+_, _*_, _≤_, _<_}
 use native.Mathlib.Omega.{arith}
 use native.Mathlib.Decide.{ℕ-discrete}
 use native.Mathlib.Numerals.{add-one}
-use mathlib.Core.Path.{_≡_, refl, sym, ap, _∙_}
-use mathlib.Core.Bool.{Bool, true, false, _&&_, and-true, and-assoc}
+use mathlib.Core.Path.{_≡_, refl, sym, ap, ap₂, _∙_}
+use mathlib.Core.Bool.{Bool, true, false, _&&_, and-true, and-false, and-assoc}
 use mathlib.Core.List.{List, [], _∷_, _++_}
 use lib.ListN.{length, getD, take, drop, drop-of-length-le}
 use lib.Seq.{take-suc, take-all, drop-cons}
@@ -15,6 +15,7 @@ use Rattle.pages.specs.declared.Entry.{Entry}
 use Rattle.pages.specs.Sizes.{PAGE_HEAD, FANOUT, ENTRY_WORDS, PAGE_WORDS}
 use Rattle.pages.specs.Readers.{entryIn}
 use Rattle.pages.specs.Sound.{zeros}
+use Rattle.soundness.specs.Steps.{mergedOf}
 
 zeros-append : (xs ys : List ℕ) → zeros (xs ++ ys) ≡ zeros xs && zeros ys
 zeros-append [] ys = refl
@@ -50,6 +51,34 @@ or-five a b c d e =
     or-blank (bitOr (bitOr (bitOr a b) c) d) e
     ∙ ap (λ x. x && eqb e 0) (or-blank (bitOr (bitOr a b) c) d ∙ ap (λ x. x && eqb d 0) (or-blank (bitOr a b) c ∙ ap (λ x. x && eqb c 0) (or-blank a b)))
 
+-- two entries
+pairs : (a b c d : Bool) → (a && b) && (c && d) ≡ (a && c) && (b && d)
+pairs true true c d = refl
+pairs true false c d = sym (and-false c)
+pairs false b c d = refl
+
+abbrev none : ℕ → Bool
+none n = eqb n 0
+
+module _ (a b c d e p q r s t : ℕ) where
+  two : none (bitOr a p) && none (bitOr b q) ≡ (none a && none b) && (none p && none q)
+  two = ap₂ _&&_ (or-blank a p) (or-blank b q) ∙ pairs (none a) (none p) (none b) (none q)
+
+  three : (none (bitOr a p) && none (bitOr b q)) && none (bitOr c r) ≡ ((none a && none b) && none c) && ((none p && none q) && none r)
+  three = ap₂ _&&_ two (or-blank c r) ∙ pairs (none a && none b) (none p && none q) (none c) (none r)
+
+  four : ((none (bitOr a p) && none (bitOr b q)) && none (bitOr c r)) && none (bitOr d s) ≡ (((none a && none b) && none c) && none d) && (((none p && none q) && none r) && none s)
+  four = ap₂ _&&_ three (or-blank d s) ∙ pairs ((none a && none b) && none c) ((none p && none q) && none r) (none d) (none s)
+
+  or-ten : none (bitOr (bitOr (bitOr (bitOr (bitOr a p) (bitOr b q)) (bitOr c r)) (bitOr d s)) (bitOr e t)) ≡ none (bitOr (bitOr (bitOr (bitOr a b) c) d) e) && none (bitOr (bitOr (bitOr (bitOr p q) r) s) t)
+  or-ten =
+      or-five (bitOr a p) (bitOr b q) (bitOr c r) (bitOr d s) (bitOr e t)
+      ∙ (ap₂ _&&_ four (or-blank e t)
+      ∙ (pairs (((none a && none b) && none c) && none d) (((none p && none q) && none r) && none s) (none e) (none t) ∙ ap₂ _&&_ (sym (or-five a b c d e)) (sym (or-five p q r s t))))
+
+merged-blank : (a b : Entry) → none (wordsOr (mergedOf a b)) ≡ none (wordsOr a) && none (wordsOr b)
+merged-blank a b = or-ten (a .rect .x1) (a .rect .y1) (a .rect .x2) (a .rect .y2) (a .r) (b .rect .x1) (b .rect .y1) (b .rect .x2) (b .rect .y2) (b .r)
+
 and-five : (a b c d e z : Bool) → a && (b && (c && (d && (e && z)))) ≡ ((((a && b) && c) && d) && e) && z
 and-five a b c d e z = simp and-assoc
 
@@ -67,9 +96,9 @@ zeros-entry w i s l =
     ∙ ap (λ x. x && zeros (drop (PAGE_HEAD + ENTRY_WORDS * (i + 1)) w)) (sym (or-five (getD w a 0) (getD w (a + 1) 0) (getD w (a + 2) 0) (getD w (a + 3) 0) (getD w (a + 4) 0)))))
 
 module _ (w : List ℕ) (s : length w ≡ PAGE_WORDS) (b : Bool) where
-  pub tail-more : (i any : ℕ) (e : Entry) → i < FANOUT → e ≡ entryIn w i → b ≡ eqb any 0 && zeros (drop (PAGE_HEAD + ENTRY_WORDS * i) w) → b ≡ eqb (bitOr any (wordsOr e)) 0 && zeros (drop (PAGE_HEAD + ENTRY_WORDS * (i + 1)) w)
-  tail-more i any e l q h = h ∙ (ap (λ z. eqb any 0 && z) (zeros-entry w i s l ∙ ap (λ x. eqb (wordsOr x) 0 && zeros (drop (PAGE_HEAD + ENTRY_WORDS * (i + 1)) w)) (sym q))
-      ∙ (sym (and-assoc (eqb any 0) (eqb (wordsOr e) 0) (zeros (drop (PAGE_HEAD + ENTRY_WORDS * (i + 1)) w))) ∙ ap (λ x. x && zeros (drop (PAGE_HEAD + ENTRY_WORDS * (i + 1)) w)) (sym (or-blank any (wordsOr e)))))
+  pub tail-more : (i : ℕ) (any e : Entry) → i < FANOUT → e ≡ entryIn w i → b ≡ eqb (wordsOr any) 0 && zeros (drop (PAGE_HEAD + ENTRY_WORDS * i) w) → b ≡ eqb (wordsOr (mergedOf any e)) 0 && zeros (drop (PAGE_HEAD + ENTRY_WORDS * (i + 1)) w)
+  tail-more i any e l q h = h ∙ (ap (λ z. eqb (wordsOr any) 0 && z) (zeros-entry w i s l ∙ ap (λ x. eqb (wordsOr x) 0 && zeros (drop (PAGE_HEAD + ENTRY_WORDS * (i + 1)) w)) (sym q))
+      ∙ (sym (and-assoc (eqb (wordsOr any) 0) (eqb (wordsOr e) 0) (zeros (drop (PAGE_HEAD + ENTRY_WORDS * (i + 1)) w))) ∙ ap (λ x. x && zeros (drop (PAGE_HEAD + ENTRY_WORDS * (i + 1)) w)) (sym (merged-blank any e))))
 
   pub tail-done : (i any : ℕ) → FANOUT ≤ i → b ≡ eqb any 0 && zeros (drop (PAGE_HEAD + ENTRY_WORDS * i) w) → eqb any 0 ≡ b
   tail-done i any l h = sym (h ∙ (ap (λ x. eqb any 0 && zeros x) (drop-of-length-le w {i = PAGE_HEAD + ENTRY_WORDS * i} (omega arith)) ∙ and-true (eqb any 0)))

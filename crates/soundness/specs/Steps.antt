@@ -4,13 +4,14 @@ use mathlib.Core.Path.{_≡_}
 use mathlib.Core.Bool.{Bool, true, false, _&&_, cond}
 use mathlib.Core.List.{List}
 use lib.ListN.{length, getD, drop}
+use lib.Bits.{bitOr}
 use lib.Dec.{T, eqb}
 use Rattle.pages.specs.Under.{under, seen}
 use Rattle.pages.specs.declared.Rect.{Rect}
 use Rattle.pages.specs.declared.Entry.{Entry}
 use Rattle.pages.specs.Sizes.{PIECES, PAGE_HEAD, FANOUT, ENTRY_WORDS, PAGES, TABLE_WORDS, TOP_LEVEL, FEWEST, ROOT_LEAST}
 use Rattle.pages.specs.Lists.{one, sum, sumBelow, Every}
-use Rattle.pages.specs.Rectangles.{valid, sameRect, widen, bounds}
+use Rattle.pages.specs.Rectangles.{rectOf, entryOf, valid, sameRect, widen, bounds}
 use Rattle.pages.specs.Layout.{page, pageWords, tableIn}
 use Rattle.pages.specs.Sound.{is, zeros}
 use Rattle.soundness.specs.declared.Visit.{Visit}
@@ -33,6 +34,11 @@ visits w l p q = seen (λ x. one (eqb x q)) (tableIn w .pages) l p
 
 abbrev pub stores : List ℕ → ℕ → ℕ → ℕ → ℕ
 stores w l p c = under (is c) (tableIn w .pages) l p
+
+-- the words of two entries, each pair joined by `or`
+abbrev pub mergedOf : Entry → Entry → Entry
+mergedOf a b =
+    entryOf (rectOf (bitOr (a .rect .x1) (b .rect .x1)) (bitOr (a .rect .y1) (b .rect .y1)) (bitOr (a .rect .x2) (b .rect .x2)) (bitOr (a .rect .y2) (b .rect .y2))) (bitOr (a .r) (b .r))
 
 -- what is asked of an entry in a leaf
 abbrev pub Piece : Entry → Type 0

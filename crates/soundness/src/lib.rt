@@ -18,7 +18,7 @@ ghost use Rattle.pages.specs.Layout.{tableIn};
 ghost use Rattle.pages.specs.Readers.{entriesIn};
 ghost use Rattle.pages.specs.Sound.{is, zeros, sound};
 ghost use Rattle.soundness.specs.Calls.{checkCall};
-ghost use Rattle.soundness.specs.Steps.{totalOf, Piece, Head, Tested, LeafTested, Visited, withChild, rootFewest, Rooted};
+ghost use Rattle.soundness.specs.Steps.{totalOf, mergedOf, Piece, Head, Tested, LeafTested, Visited, withChild, rootFewest, Rooted};
 
 // What check answers: a count of 6 is no refusal 6, so they stand apart.
 #[repr(C)]
@@ -44,17 +44,34 @@ fn is_blank(words: &[u32]) -> bool
     any == 0
 }
 
-// The same of a page's entries from n on, which are few: entry by entry.
+// The words of two entries, each pair joined by `or`.
+fn merged(a: pages::Entry, b: pages::Entry) -> pages::Entry
+    ensures { λ r. ⌜ r ≡ mergedOf a b ⌝ }
+{
+    pages::Entry {
+        rect: pages::Rect {
+            x1: a.rect.x1 | b.rect.x1,
+            y1: a.rect.y1 | b.rect.y1,
+            x2: a.rect.x2 | b.rect.x2,
+            y2: a.rect.y2 | b.rect.y2,
+        },
+        r: a.r | b.r,
+    }
+}
+
+// The same of a page's entries from n on, which are few: entry by entry, four words at once.
 fn is_tail_blank(page: &[u32], n: usize) -> bool
     requires { ⌜ (length (now page) ≡ PAGE_WORDS) × (n ≤ FANOUT) ⌝ }
     ensures { λ r. ⌜ r ≡ zeros (drop (PAGE_HEAD + ENTRY_WORDS * n) (now (page .entry))) ⌝ }
 {
-    let mut any: u32 = 0;
+    let mut any = pages::Entry {
+        rect: pages::no_rect(),
+        r: 0,
+    };
     for i in n..pages::FANOUT {
-        let e = pages::entry_of(page, i);
-        any |= e.rect.x1 | e.rect.y1 | e.rect.x2 | e.rect.y2 | e.r;
+        any = merged(any, pages::entry_of(page, i));
     }
-    any == 0
+    any.rect.x1 | any.rect.y1 | any.rect.x2 | any.rect.y2 | any.r == 0
 }
 
 // The sum of the first n marks.
