@@ -133,8 +133,8 @@ fn framed(q: Rect, below: &[u16; CODES], masks: &[u16; CODES]) -> [u32; FRAME_WO
     [q.x1, q.y1, q.x2, q.y2, w.x1, w.y1, w.x2, w.y2]
 }
 
-// Whether a rectangle lies beyond the window on one of its sides: the four tests without a branch, which the compiler makes at
-// once where no code is asked afterwards.
+// Whether a rectangle lies beyond the window on one of its sides. The four tests are joined without a branch: where no code is
+// asked afterwards they are made at once.
 fn is_beyond(frame: &[u32; FRAME_WORDS], rect: Rect) -> bool
     ensures { λ r. ⌜ r ≡ beyond (windowOf (now (frame .entry))) rect ⌝ }
 {
