@@ -19,7 +19,7 @@ use Rattle.pages.proofs.Cells.{cell-word}
 use Rattle.placing.specs.Calls.{placeSound, placeCall}
 use Rattle.history.specs.Book.{Call, blank, fed}
 use Rattle.history.specs.History.{placed, tableAfter}
-use Rattle.history.specs.Replay.{CMARKS, callIn, callsOf, refusalsFrom, refusalsAfter, replayed, replayCall}
+use Rattle.history.specs.Replay.{CALL_WORDS, callIn, callsOf, refusalsFrom, refusalsAfter, replayed, replayCall}
 use Rattle.history.proofs.Reached.{Reached, call-sound, reached-calls}
 
 -- one call more
@@ -40,9 +40,9 @@ length-refusals [] w = refl
 length-refusals (c ∷ cs) w = ap suc (length-refusals cs (placeCall w (c .number) (c .rect) .1))
 
 -- the calls in the words
-pub length-calls : (words : List ℕ) → length (callsOf words) ≡ length words / CMARKS
+pub length-calls : (words : List ℕ) → length (callsOf words) ≡ length words / CALL_WORDS
 unfolding callsOf
-length-calls words = length-unpack callIn CMARKS (length words / CMARKS) words
+length-calls words = length-unpack callIn CALL_WORDS (length words / CALL_WORDS) words
 
 -- the call whose words start at a place
 abbrev pub callAt : List ℕ → ℕ → Call
@@ -51,23 +51,23 @@ callAt words at = record {
   rect = rectOf (getD words (at + 1) 0) (getD words (at + 2) 0) (getD words (at + 3) 0) (getD words (at + 4) 0);
 }
 
-call-at : (words : List ℕ) (at : ℕ) → callIn (take CMARKS (drop at words)) ≡ callAt words at
+call-at : (words : List ℕ) (at : ℕ) → callIn (take CALL_WORDS (drop at words)) ≡ callAt words at
 unfolding callIn
 call-at words at =
     let z : at + 0 ≡ at = omega arith in
-    let n : getD (take CMARKS (drop at words)) 0 0 ≡ getD words at 0 = cell-word words at CMARKS 0 (omega arith) ∙ ap (λ k. getD words k 0) z in
-    let a = cell-word words at CMARKS 1 (omega arith) in
-    let b = cell-word words at CMARKS 2 (omega arith) in
-    let c = cell-word words at CMARKS 3 (omega arith) in
-    let d = cell-word words at CMARKS 4 (omega arith) in
+    let n : getD (take CALL_WORDS (drop at words)) 0 0 ≡ getD words at 0 = cell-word words at CALL_WORDS 0 (omega arith) ∙ ap (λ k. getD words k 0) z in
+    let a = cell-word words at CALL_WORDS 1 (omega arith) in
+    let b = cell-word words at CALL_WORDS 2 (omega arith) in
+    let c = cell-word words at CALL_WORDS 3 (omega arith) in
+    let d = cell-word words at CALL_WORDS 4 (omega arith) in
     λ i. record { number = n i; rect = record { x1 = a i; y1 = b i; x2 = c i; y2 = d i } }
 
-call-in : (words : List ℕ) (i : ℕ) → i < length words / CMARKS → getD (callsOf words) i (callAt words 0) ≡ callAt words (CMARKS * i)
+call-in : (words : List ℕ) (i : ℕ) → i < length words / CALL_WORDS → getD (callsOf words) i (callAt words 0) ≡ callAt words (CALL_WORDS * i)
 unfolding callsOf
-call-in words i l = getD-unpack callIn CMARKS (length words / CMARKS) words (callAt words 0) i l ∙ call-at words (CMARKS * i)
+call-in words i l = getD-unpack callIn CALL_WORDS (length words / CALL_WORDS) words (callAt words 0) i l ∙ call-at words (CALL_WORDS * i)
 
-calls-more : (words : List ℕ) (i : ℕ) → i < length words / CMARKS
-    → take (suc i) (callsOf words) ≡ take i (callsOf words) ++ (callAt words (CMARKS * i) ∷ [])
+calls-more : (words : List ℕ) (i : ℕ) → i < length words / CALL_WORDS
+    → take (suc i) (callsOf words) ≡ take i (callsOf words) ++ (callAt words (CALL_WORDS * i) ∷ [])
 calls-more words i l =
     take-suc (callsOf words) i (callAt words 0) (omega (arith, length-calls words))
     ∙ ap (λ c. take i (callsOf words) ++ (c ∷ [])) (call-in words i l)
@@ -87,13 +87,13 @@ module _ {first words before : List ℕ} {i : ℕ} {table answer : List ℕ} (P 
   done = take i (callsOf words)
 
   abbrev next : Call
-  next = callAt words (CMARKS * i)
+  next = callAt words (CALL_WORDS * i)
 
   pub progress-reached : Reached table (fed (λ n. blank) done)
   progress-reached = subst (λ x. Reached x (fed (λ n. blank) done)) (sym (P .table-is)) (reached-calls done first (λ n. blank) (P .start))
 
   -- one step of the loop
-  module _ (u : List ℕ) (r : ℕ) (q : Rect) (l : i < length words / CMARKS) (k : length words / CMARKS ≤ length before)
+  module _ (u : List ℕ) (r : ℕ) (q : Rect) (l : i < length words / CALL_WORDS) (k : length words / CALL_WORDS ≤ length before)
       (eq : q ≡ next .rect) (s : (r, u) ≡ placeSound table (next .number) q) where
     called : (r, u) ≡ placeCall (placed first done) (next .number) (next .rect)
     called =
@@ -129,11 +129,11 @@ module _ (table words answer : List ℕ) where
   pub replay-short : length table < TABLE_WORDS → (TABLE_TOO_SHORT, table, answer) ≡ replayCall table words answer
   replay-short l = sym (replay-tests ∙ rw (lt-ltb (length table) TABLE_WORDS l))
 
-  pub replay-few : TABLE_WORDS ≤ length table → length answer < length words / CMARKS → (ANSWER_TOO_SHORT, table, answer) ≡ replayCall table words answer
+  pub replay-few : TABLE_WORDS ≤ length table → length answer < length words / CALL_WORDS → (ANSWER_TOO_SHORT, table, answer) ≡ replayCall table words answer
   replay-few l k = sym (replay-tests ∙ rw (le-ltb (length table) TABLE_WORDS l, lt-ltb (length answer) (length (callsOf words)) (omega (arith, length-calls words))))
 
-  pub replay-done : (first t a : List ℕ) (r i : ℕ) → TABLE_WORDS ≤ length table → length words / CMARKS ≤ length answer
-      → (r, first) ≡ emptyCall table → i ≡ length words / CMARKS → Progress first words answer i t a → (ACCEPTED, t, a) ≡ replayCall table words answer
+  pub replay-done : (first t a : List ℕ) (r i : ℕ) → TABLE_WORDS ≤ length table → length words / CALL_WORDS ≤ length answer
+      → (r, first) ≡ emptyCall table → i ≡ length words / CALL_WORDS → Progress first words answer i t a → (ACCEPTED, t, a) ≡ replayCall table words answer
   replay-done first t a r i l k m e P =
       let n : i ≡ length (callsOf words) = omega (arith, length-calls words) in
       rw (P .table-is, P .answer-is, n, take-length (callsOf words), ap (λ x. x .1) m)

@@ -16,8 +16,8 @@ use Rattle.history.specs.Book.{Call}
 use Rattle.history.specs.History.{tableAfter}
 
 -- "number, x1, y1, x2, y2"
-abbrev pub CMARKS : ℕ
-CMARKS = 5
+abbrev pub CALL_WORDS : ℕ
+CALL_WORDS = 5
 
 unfoldable pub callIn : List ℕ → Call
 callIn w = record { number = getD w 0 0; rect = rectOf (getD w 1 0) (getD w 2 0) (getD w 3 0) (getD w 4 0) }
@@ -25,7 +25,7 @@ callIn w = record { number = getD w 0 0; rect = rectOf (getD w 1 0) (getD w 2 0)
 -- the calls of the whole groups of five words; up to four words after them are no call
 unfoldable pub callsOf : List ℕ → List Call
 unfolding callIn
-callsOf words = unpack callIn CMARKS (length words / CMARKS) words
+callsOf words = unpack callIn CALL_WORDS (length words / CALL_WORDS) words
 
 -- what each call of a list returns
 unfoldable pub refusalsFrom : List ℕ → List Call → List ℕ

@@ -20,7 +20,7 @@ ghost use Rattle.placing.specs.Calls.{placeSound};
 ghost use Rattle.history.specs.Replay.{Marked, replayCall};
 
 // The words of a place call: number, x1, y1, x2, y2.
-pub const CMARKS: usize = 5;
+pub const CALL_WORDS: usize = 5;
 
 // The rectangle of the call whose words start at `at`.
 fn rect_at(calls: &[u32], at: usize) -> Rect
@@ -61,14 +61,14 @@ pub fn replay(table: &mut [u32], calls: &[u32], refusals: &mut [u32]) -> u32
     if table.len() < TABLE_WORDS {
         return TABLE_TOO_SHORT;
     }
-    let count: usize = calls.len() / CMARKS;
+    let count: usize = calls.len() / CALL_WORDS;
     if refusals.len() < count {
         return ANSWER_TOO_SHORT;
     }
     pages::empty(table);
     let mut marks = [0u8; NUMBERS];
     for i in 0..count {
-        let at: usize = CMARKS * i;
+        let at: usize = CALL_WORDS * i;
         refusals[i] = place_marked(table, &mut marks, calls[at], rect_at(calls, at));
     }
     ACCEPTED

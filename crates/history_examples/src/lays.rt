@@ -1,7 +1,7 @@
 // Lists of place calls by formulas, as words: number, x1, y1, x2, y2. The generator of chance has a state x, and a step is
 // x = (1664525 x + 1013904223) mod 2^32.
 ghost use Prim.Native.Nat.{_≤_, _<_};
-use history::CMARKS;
+use history::CALL_WORDS;
 use pages::Rect;
 use printing::WORD_VALUES;
 use printing::store;
@@ -196,7 +196,7 @@ fn call_at(lay: Lay, i: u32, x: u32) -> Call
 }
 
 fn put(calls: &mut [u32], i: u32, c: Call) {
-    let at: usize = CMARKS * (i as usize);
+    let at: usize = CALL_WORDS * (i as usize);
     store(calls, at, c.number);
     store(calls, at + 1, c.rect.x1);
     store(calls, at + 2, c.rect.y1);
@@ -223,8 +223,12 @@ fn swap(words: &mut [u32], a: usize, b: usize) {
 }
 
 fn swap_calls(calls: &mut [u32], i: u32, j: u32) {
-    for w in 0..CMARKS {
-        swap(calls, CMARKS * (i as usize) + w, CMARKS * (j as usize) + w);
+    for w in 0..CALL_WORDS {
+        swap(
+            calls,
+            CALL_WORDS * (i as usize) + w,
+            CALL_WORDS * (j as usize) + w,
+        );
     }
 }
 

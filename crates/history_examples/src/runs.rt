@@ -6,7 +6,7 @@ use crate::lays::rest;
 use crate::lays::sized;
 use crate::lays::step;
 use crate::lays::write;
-use history::CMARKS;
+use history::CALL_WORDS;
 use pages::Rect;
 use printing::WORD_VALUES;
 use printing::ask;
@@ -23,7 +23,7 @@ const QUESTIONS: u32 = 10;
 // The longest list.
 const MOST_CALLS: usize = 3_000;
 
-const MOST_WORDS: usize = CMARKS * MOST_CALLS;
+const MOST_WORDS: usize = CALL_WORDS * MOST_CALLS;
 
 // After how many calls the sum of the table is printed.
 const STOPS: [u32; 7] = [1, 8, 9, 10, 33, 100, 500];
@@ -140,7 +140,7 @@ fn questions(name: &[u8], table: &[u32], unit: u32, answer: &mut [u16]) {
 
 // The table after the first calls, by `replay`.
 fn stop(calls: &[u32], count: u32, table: &mut [u32], returned: &mut [u32]) {
-    history::replay(table, front(calls, CMARKS * (count as usize)), returned);
+    history::replay(table, front(calls, CALL_WORDS * (count as usize)), returned);
     text(b"after");
     number(count);
     checksum(table);
@@ -154,7 +154,7 @@ fn stops(calls: &[u32], table: &mut [u32], returned: &mut [u32]) {
 }
 
 fn place_at(calls: &[u32], i: u32, table: &mut [u32]) -> u32 {
-    let at: usize = CMARKS * (i as usize);
+    let at: usize = CALL_WORDS * (i as usize);
     placing::place(table, word(calls, at), rect_at(calls, at + 1))
 }
 

@@ -12,7 +12,7 @@ use Rattle.pages.specs.Lists.{concatMap}
 use Rattle.pages.proofs.Lists.{and}
 use Rattle.pages.specs.declared.Rect.{Rect}
 use Rattle.history.specs.Book.{Call}
-use Rattle.history.specs.Replay.{CMARKS}
+use Rattle.history.specs.Replay.{CALL_WORDS}
 use Rattle.job.specs.Sizes.{JOB_BYTES, WORD_BYTES, BYTE_VALUES, WORD_VALUES, QUERY_HEAD, CLAUSE_COUNT_AT, CLAUSE_WORDS}
 use Rattle.job.specs.Job.{Query, Job, rectWords, pieceWords, clauseWords, queryWords, jobWords, littleEndian, jobBytes}
 use Rattle.job.specs.Words.{wordAt, rectAt, clauseAt, clausesAt, pieceCount, pieceStart, pieceAt, piecesIn, queryCount, queryStart, queryAt, queriesIn, jobIn, wellFormed}
@@ -105,7 +105,7 @@ module _ (ws : List ℕ) where
         call-is _ _ _ _ (read-at (pieceStart i) (pieceWords c ++ tail) 0 (pieceStart i) A (omega arith))
         (rect-read (pieceStart i) (pieceStart i + 1) (c .rect) (c .number ∷ []) tail A refl)
 
-    piece-size : (c : Call) → length (pieceWords c) ≡ CMARKS
+    piece-size : (c : Call) → length (pieceWords c) ≡ CALL_WORDS
     unfolding pieceWords
     piece-size c = refl
 

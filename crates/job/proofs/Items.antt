@@ -15,7 +15,7 @@ use Rattle.pages.proofs.Lists.{both}
 use Rattle.placing.specs.Calls.{placeSound, placeCall}
 use Rattle.query.specs.declared.Answer.{Answer}
 use Rattle.query.specs.Calls.{querySound, queryCall}
-use Rattle.history.specs.Replay.{CMARKS}
+use Rattle.history.specs.Replay.{CALL_WORDS}
 use Rattle.job.specs.Sizes.{JOB_BYTES, WORD_BYTES, QUERY_HEAD, CLAUSE_COUNT_AT, CLAUSE_WORDS}
 use Rattle.job.specs.Lines.{UNPLACED, line}
 use Rattle.job.specs.Output.{pieceLine, queryLine, room, answerOf}
@@ -36,7 +36,7 @@ module _ (b : List ℕ) (good : T (wellFormed b)) where
   pub exact : length b ≡ WORD_BYTES * queryStart b (queryCount b)
   exact = eqb→eq _ _ (parts .1)
 
-  pub piece-room : (i : ℕ) → i < pieceCount b → WORD_BYTES * (pieceStart i + CMARKS) ≤ length b
+  pub piece-room : (i : ℕ) → i < pieceCount b → WORD_BYTES * (pieceStart i + CALL_WORDS) ≤ length b
   piece-room i h = omega (arith, exact, first-start b, starts-after b (queryCount b))
 
   pub query-room : (i at : ℕ) → i < queryCount b → at ≡ queryStart b i → WORD_BYTES * (at + QUERY_HEAD + CLAUSE_WORDS * wordAt b (at + CLAUSE_COUNT_AT)) ≤ length b

@@ -7,7 +7,7 @@ use lib.Dec.{leb, eqb}
 use Rattle.pages.specs.declared.Rect.{Rect}
 use Rattle.pages.specs.Rectangles.{rectOf}
 use Rattle.history.specs.Book.{Call}
-use Rattle.history.specs.Replay.{CMARKS}
+use Rattle.history.specs.Replay.{CALL_WORDS}
 use Rattle.job.specs.Sizes.{JOB_BYTES, WORD_BYTES, BYTE_VALUES, WORD_VALUES, QUERY_HEAD, CLAUSE_COUNT_AT, CLAUSE_WORDS}
 use Rattle.job.specs.Job.{Query, Job}
 use Rattle.job.specs.Output.{jobLines, badJob}
@@ -35,7 +35,7 @@ pieceCount b = wordAt b 0
 
 -- "Pieces: number, x1, y1, x2, y2"
 abbrev pub pieceStart : ℕ → ℕ
-pieceStart i = 1 + CMARKS * i
+pieceStart i = 1 + CALL_WORDS * i
 
 abbrev pub pieceAt : List ℕ → ℕ → Call
 pieceAt b i = record { number = wordAt b (pieceStart i); rect = rectAt b (pieceStart i + 1) }

@@ -2,7 +2,7 @@
 mod lines;
 mod words;
 
-use history::CMARKS;
+use history::CALL_WORDS;
 use lines::answered_line;
 use lines::refused_line;
 use pages::ACCEPTED;
@@ -107,7 +107,7 @@ pub fn shape_of(bytes: &[u8]) -> Shape
         return bad_shape();
     }
     let pieces = word_at(bytes, 0) as usize;
-    let count = 1 + CMARKS * pieces;
+    let count = 1 + CALL_WORDS * pieces;
     if bytes.len() < WORD_BYTES * (count + 1) {
         return bad_shape();
     }
@@ -148,7 +148,7 @@ pub fn place_piece(job: &[u8], i: usize, table: &mut [u32], out: &mut [u8]) -> u
     requires { ⌜ T (wellFormed (now job)) × (i < pieceCount (now job)) × (now table ≡ tableAt (now job) i) × (LINE_BYTES ≤ length (now out)) ⌝ }
     ensures { λ r. ⌜ (r ≤ LINE_BYTES) × (take r (now (out .exit)) ≡ pieceLineAt (now (job .entry)) i) × (now (table .exit) ≡ tableAt (now (job .entry)) (i + 1)) ⌝ }
 {
-    let at = 1 + CMARKS * i;
+    let at = 1 + CALL_WORDS * i;
     let number = word_at(job, at);
     let rect = rect_at(job, at + 1);
     let refusal = placing::place_sound(table, number, rect);

@@ -1,4 +1,4 @@
--- What lies beyond the window fails the page test and the leaf test; where exactly what overlaps is admitted, all else passes both.
+-- What lies beyond the window fails the page test and the leaf test; for the admitted set of overlap all else passes both.
 use Prim.Native.Nat.{ℕ, _+_, _-_, _<_, _≤_}
 use native.Mathlib.Omega.{arith}
 use mathlib.Core.Path.{_≡_, refl, sym, ap, _∙_}

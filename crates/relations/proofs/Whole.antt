@@ -1,4 +1,4 @@
--- Where every configuration of overlapping rectangles is admitted, what overlaps the reference passes both tests.
+-- Where all 81 configurations with both codes in 3 to 11 are admitted, whatever has such codes passes both tests.
 use mathlib.Core.Bool.{Bool, true, false, _&&_, false≢true}
 use mathlib.Core.List.{List}
 use mathlib.Core.Path.{_≡_, refl, sym, ap, subst, _∙_}

@@ -60,12 +60,12 @@ openAt joined c = pageTest joined c AROUND || pageTest joined AROUND c
 unfoldable pub nearBy : List ℕ → Bool
 nearBy joined = not (openAt joined 1) && (not (openAt joined 2) && not (openAt joined CODES))
 
--- nothing is admitted that does not overlap the reference: beside those, what meets it has code 12
+-- nothing is admitted with code 1, 2, 12 or 13 on an axis, so both codes are in 3 to 11
 unfoldable pub innerBy : List ℕ → Bool
 unfolding nearBy
 innerBy joined = nearBy joined && not (openAt joined 12)
 
--- the codes 3 to 11, of intervals that overlap, as a number; what the rows of codes 3 to n + 3 have in common
+-- the codes 3 to 11 as a number; what the rows of codes 3 to n + 3 have in common
 abbrev pub OVERLAPPING : ℕ
 OVERLAPPING = 2_044
 
@@ -73,11 +73,11 @@ unfoldable pub shared : List ℕ → ℕ → ℕ
 shared rows zero = getD rows 2 0
 shared rows (suc n) = bitAnd (shared rows n) (getD rows (n + 3) 0)
 
--- every configuration of overlapping rectangles is admitted
+-- all 81 configurations with both codes in 3 to 11 are admitted
 unfoldable pub wholeBy : List ℕ → Bool
 wholeBy rows = eqb (bitAnd (shared rows 8) OVERLAPPING) OVERLAPPING
 
--- what overlaps the reference is admitted, and nothing else
+-- they are, and no others: the admitted set of overlap
 unfoldable pub overlapBy : List ℕ → List ℕ → Bool
 unfolding innerBy wholeBy
 overlapBy rows joined = innerBy joined && wholeBy rows

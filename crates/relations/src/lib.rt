@@ -50,7 +50,7 @@ const ALONG_TURNED: [u16; 8] = [4096, 1024, 4096, 1024, 4096, 1024, 2048, 7168];
 
 const ACROSS_TURNED: [u16; 8] = [8191, 8191, 256, 256, 4096, 7168, 8191, 8191];
 
-// The codes 3 to 11, of intervals that overlap.
+// The codes 3 to 11.
 const OVERLAPPING: u16 = 2_044;
 
 // The code of a page that reaches beyond the reference on both sides, in which every code can stand.
@@ -294,7 +294,7 @@ pub fn is_near(below: &[u16; CODES], masks: &[u16; CODES]) -> bool
     !is_open(below, masks, CODES)
 }
 
-// Whether nothing is admitted that does not overlap the reference.
+// Whether nothing is admitted but with both codes in 3 to 11: where more than edges meet.
 pub fn is_inner(below: &[u16; CODES], masks: &[u16; CODES]) -> bool
     requires { ⌜ now masks ≡ nodeMasks ⌝ }
     ensures { λ r. ⌜ r ≡ innerBy (now (below .entry)) ⌝ }
@@ -305,7 +305,7 @@ pub fn is_inner(below: &[u16; CODES], masks: &[u16; CODES]) -> bool
     !is_open(below, masks, 12)
 }
 
-// Whether what overlaps the reference is admitted, and nothing else, as for "overlap": a walk then needs no codes at all.
+// Whether the admitted set is that of overlap, the 81 configurations with both codes in 3 to 11: a walk then needs no codes.
 pub fn is_overlap(rows: &[u16; CODES], below: &[u16; CODES], masks: &[u16; CODES]) -> bool
     requires { ⌜ now masks ≡ nodeMasks ⌝ }
     ensures { λ r. ⌜ r ≡ overlapBy (now (rows .entry)) (now (below .entry)) ⌝ }

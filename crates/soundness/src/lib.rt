@@ -59,7 +59,7 @@ fn merged(a: pages::Entry, b: pages::Entry) -> pages::Entry
     }
 }
 
-// The same of a page's entries from n on, which are few: entry by entry, four words at once.
+// Whether a page's entries from n on are zero: they are few, so entry by entry, four words at once.
 fn is_tail_blank(page: &[u32], n: usize) -> bool
     requires { ⌜ (length (now page) ≡ PAGE_WORDS) × (n ≤ FANOUT) ⌝ }
     ensures { λ r. ⌜ r ≡ zeros (drop (PAGE_HEAD + ENTRY_WORDS * n) (now (page .entry))) ⌝ }
