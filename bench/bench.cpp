@@ -1,5 +1,6 @@
 // Times of the finder's calls beside a linear scan, the Rust model, Boost.Geometry's R-tree and libspatialindex, in one run.
-// Each figure is the best of ROUNDS rounds in each of LAPS turns; the finder's answers are compared with the scan's, and every side sorts by number.
+// Each figure is the best of up to ROUNDS rounds in each of LAPS turns; the finder's answers are compared with the scan's, and every side sorts by number.
+// An argument says how many different references the inner queries and Boost are asked for; fewer than QUERIES stand again and again.
 #include <algorithm>
 #include <chrono>
 #include <cmath>
@@ -42,11 +43,15 @@ using Rects = std::vector<Rect>;
 
 static const int ROUNDS = 15;
 static const int LAPS = 6;
+// No further round of a side begins in a turn after this time.
+static const double ENOUGH = 40e6;
 static const uint32_t EDGE = FINDER_EDGE;
 static const uint32_t PIECES = FINDER_PIECES;
-static const int REFERENCES = 64;
-// How often the references stand in one list for the inner queries, so that the one test of the table does not count.
-static const int TURNS = 64;
+// So many queries that the processor cannot learn how their branches go, and that the one test of the table does not count.
+static const int QUERIES = 16384;
+// The slow sides are asked for the first few alone.
+static const int FEW = 64;
+static int different = QUERIES;
 
 static volatile uint64_t sink;
 static std::vector<uint32_t> table(FINDER_TABLE_WORDS);
@@ -57,12 +62,14 @@ static void fail(const char *what) {
 }
 
 static double best_of(const std::function<void()> &run, int each) {
-    double best = 1e99;
-    for (int i = 0; i < ROUNDS; i++) {
+    double best = 1e99, spent = 0;
+    for (int i = 0; i < ROUNDS && spent < ENOUGH; i++) {
         auto start = std::chrono::steady_clock::now();
         run();
         auto end = std::chrono::steady_clock::now();
-        best = std::min(best, std::chrono::duration<double, std::nano>(end - start).count() / each);
+        double took = std::chrono::duration<double, std::nano>(end - start).count();
+        best = std::min(best, took / each);
+        spent += took;
     }
     return best;
 }
@@ -149,11 +156,15 @@ static void build(const Rects &rects) {
         if (r != 0) fail("a place call was refused");
 }
 
-// A piece's own rectangle, or one around it.
+// A piece's own rectangle, or one around it; the pieces are drawn at random.
 static Rects references_of(const Rects &rects) {
     Rects refs;
     const uint32_t margin = 30000;
-    for (int i = 0; i < REFERENCES; i++) {
+    for (int i = 0; i < QUERIES; i++) {
+        if (i >= different) {
+            refs.push_back(refs[i - different]);
+            continue;
+        }
         Rect q = rects[random_below(PIECES)];
         if (i % 2)
             q = {q.x1 > margin ? q.x1 - margin : 0, q.y1 > margin ? q.y1 - margin : 0, std::min(q.x2 + margin, EDGE), std::min(q.y2 + margin, EDGE)};
@@ -260,10 +271,9 @@ static void query_row(const char *data, const Rects &rects, const Wish &wish, co
     found.reserve(PIECES);
     values.reserve(PIECES);
     uint64_t hits = 0;
-    for (int i = 0; i < TURNS; i++)
-        for (auto &q : refs)
-            for (uint32_t word : {q.x1, q.y1, q.x2, q.y2}) words.push_back(word);
+    Rects few(refs.begin(), refs.begin() + FEW);
     for (auto &q : refs) {
+        for (uint32_t word : {q.x1, q.y1, q.x2, q.y2}) words.push_back(word);
         auto a = ask(q, wish.clauses, answer);
         hits += a.hits;
         scan(rects, set, q, found);
@@ -278,25 +288,25 @@ static void query_row(const char *data, const Rects &rects, const Wish &wish, co
         std::sort(found.begin(), found.end());
         sink += found.size();
     };
-    auto full = [&] { for (auto &q : refs) sink += ask(q, wish.clauses, answer).hits; };
+    auto full = [&] { for (auto &q : few) sink += ask(q, wish.clauses, answer).hits; };
     auto inner = [&] {
         sink += bench_queries(table.data(), table.size(), words.data(), words.size(), wish.clauses.data(), wish.clauses.size(), answer.data(), answer.size());
     };
     auto linear = [&] {
-        for (auto &q : refs) {
+        for (auto &q : few) {
             scan(rects, set, q, found);
             sink += found.size();
         }
     };
     auto model = [&] {
-        for (auto &q : refs) {
+        for (auto &q : few) {
             uint32_t h;
             model_query(table.data(), table.size(), q.x1, q.y1, q.x2, q.y2, wish.clauses.data(), wish.clauses.size(), answer.data(), answer.size(), &h);
             sink += h;
         }
     };
     auto by_library = [&] {
-        for (auto &q : refs) {
+        for (auto &q : few) {
             found.clear();
             Collect c(rects, set, q, found);
             library.tree->intersectsWithQuery(region(wish.window(q)), c);
@@ -307,8 +317,8 @@ static void query_row(const char *data, const Rects &rects, const Wish &wish, co
     // from the clauses, as the finder's calls, and with their set given
     auto by_boost = [&] { for (auto &q : refs) ask_boost(finder_admitted_set(wish.clauses.data(), wish.clauses.size()), q); };
     auto set_given = [&] { for (auto &q : refs) ask_boost(set, q); };
-    auto ns = side_by_side({{full, REFERENCES}, {inner, REFERENCES * TURNS}, {linear, REFERENCES}, {model, REFERENCES}, {by_library, REFERENCES}, {by_boost, REFERENCES}, {set_given, REFERENCES}});
-    printf("| %s | %s | %.1f | %.0f | %.0f | %.0f | %.0f | %.0f | %.0f | %.0f | %.2f | %.2f |\n", data, wish.name, (double)hits / REFERENCES, ns[0], ns[1], ns[2],
+    auto ns = side_by_side({{full, FEW}, {inner, QUERIES}, {linear, FEW}, {model, FEW}, {by_library, FEW}, {by_boost, QUERIES}, {set_given, QUERIES}});
+    printf("| %s | %s | %.1f | %.0f | %.0f | %.0f | %.0f | %.0f | %.0f | %.0f | %.2f | %.2f |\n", data, wish.name, (double)hits / QUERIES, ns[0], ns[1], ns[2],
            ns[3], ns[4], ns[5], ns[6], ns[1] / ns[5], ns[1] / ns[6]);
 }
 
@@ -395,7 +405,8 @@ static void shares() {
     }
 }
 
-int main() {
+int main(int argc, char **argv) {
+    if (argc > 1) different = std::max(1, std::min(atoi(argv[1]), QUERIES));
     struct Data {
         const char *name;
         Rects rects;

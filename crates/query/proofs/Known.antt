@@ -2,7 +2,7 @@
 use Prim.Native.Nat.{ℕ, _+_, _-_, _<_, _≤_}
 use native.Mathlib.Omega.{arith}
 use mathlib.Core.Path.{_≡_, refl, sym, ap, _∙_}
-use mathlib.Core.Logic.{_⊎_, inl, inr, ⊎-map}
+use mathlib.Core.Logic.{_⊎_, inl, inr, ⊎-elim}
 use mathlib.Core.Bool.{Bool, true, false, _||_, cond}
 use mathlib.Core.List.{List}
 use lib.Dec.{T, ltb}
@@ -13,10 +13,12 @@ use Rattle.relations.proofs.Sides.{is-code}
 use Rattle.relations.proofs.Near.{Shut, shut-y, shut-x, apart, outside, near-shut, inner-shut, leaf-less}
 use Rattle.relations.proofs.Whole.{Overlapping, overlapping, whole-leaf, whole-page}
 use Rattle.pages.specs.declared.Rect.{Rect}
+use Rattle.pages.specs.Sizes.{EDGE}
 use Rattle.pages.specs.Rectangles.{rectOf, valid}
 use Rattle.query.specs.Admission.{codeY, codeX}
-use Rattle.query.specs.Steps.{WORD_MAX, frameOf, windowFor, beyond, Known, admitsBy, opensBy}
+use Rattle.query.specs.Steps.{Small, MOST, frameOf, windowOf, Roomy, windowFor, beyond, Known, admitsBy, opensBy}
 use Rattle.query.proofs.Tests.{Proper, proper}
+use Rattle.query.proofs.Edges.{valid-small}
 
 either : (a b : Bool) → (a || b) ≡ true → (a ≡ true) ⊎ (b ≡ true)
 either true b e = inl refl
@@ -29,14 +31,11 @@ data Side (w p : Rect) : Type 0 where
 
 side : (w p : Rect) → beyond w p ≡ true → Side w p
 unfolding beyond
-side w p e = go (either (ltb (w .y2) (p .y1) || ltb (p .y2) (w .y1)) _ e)
+side w p e = go (either (ltb (w .y2) (p .y1) || ltb (w .x2) (p .x1)) _ e)
   where
-    one-of : (a b c d : ℕ) → (ltb a b || ltb c d) ≡ true → (a < b) ⊎ (c < d)
-    one-of a b c d h = ⊎-map (ltb-true a b) (ltb-true c d) (either (ltb a b) (ltb c d) h)
-
-    go : ((ltb (w .y2) (p .y1) || ltb (p .y2) (w .y1)) ≡ true) ⊎ ((ltb (w .x2) (p .x1) || ltb (p .x2) (w .x1)) ≡ true) → Side w p
-    go (inl h) = on-y (one-of (w .y2) (p .y1) (p .y2) (w .y1) h)
-    go (inr h) = on-x (one-of (w .x2) (p .x1) (p .x2) (w .x1) h)
+    go : ((ltb (w .y2) (p .y1) || ltb (w .x2) (p .x1)) ≡ true) ⊎ ((ltb (p .y2) (w .y1) || ltb (p .x2) (w .x1)) ≡ true) → Side w p
+    go (inl h) = ⊎-elim (λ k. on-y (inl (ltb-true _ _ k))) (λ k. on-x (inl (ltb-true _ _ k))) (either (ltb (w .y2) (p .y1)) _ h)
+    go (inr h) = ⊎-elim (λ k. on-y (inr (ltb-true _ _ k))) (λ k. on-x (inr (ltb-true _ _ k))) (either (ltb (p .y2) (w .y1)) _ h)
 
 -- what lies beyond on no side
 record In (w p : Rect) : Type 0 where
@@ -48,13 +47,13 @@ record In (w p : Rect) : Type 0 where
 within : (w p : Rect) → beyond w p ≡ false → In w p
 unfolding beyond
 within w p e =
-    let f : (ltb (w .y2) (p .y1) || ltb (p .y2) (w .y1)) ≡ false = or-left _ _ e in
-    let g : (ltb (w .x2) (p .x1) || ltb (p .x2) (w .x1)) ≡ false = or-right (ltb (w .y2) (p .y1) || ltb (p .y2) (w .y1)) _ e in
+    let f : (ltb (w .y2) (p .y1) || ltb (w .x2) (p .x1)) ≡ false = or-left _ _ e in
+    let g : (ltb (p .y2) (w .y1) || ltb (p .x2) (w .x1)) ≡ false = or-right (ltb (w .y2) (p .y1) || ltb (w .x2) (p .x1)) _ e in
     record {
       y-low = ltb-false _ _ (or-left _ _ f);
-      y-high = ltb-false _ _ (or-right (ltb (w .y2) (p .y1)) _ f);
-      x-low = ltb-false _ _ (or-left _ _ g);
-      x-high = ltb-false _ _ (or-right (ltb (w .x2) (p .x1)) _ g);
+      y-high = ltb-false _ _ (or-left _ _ g);
+      x-low = ltb-false _ _ (or-right (ltb (w .y2) (p .y1)) _ f);
+      x-high = ltb-false _ _ (or-right (ltb (p .y2) (w .y1)) _ g);
     }
 
 -- the window drawn in
@@ -64,6 +63,29 @@ drawn q = rectOf (q .x1 + 1) (q .y1 + 1) (q .x2 - 1) (q .y2 - 1)
 drawn-out : {p1 p2 q1 q2 : ℕ} → (q2 - 1 < p1) ⊎ (p2 < q1 + 1) → (q2 ≤ p1) ⊎ (p2 ≤ q1)
 drawn-out (inl h) = inl (omega arith)
 drawn-out (inr h) = inr (omega arith)
+
+window-small : (q : Rect) → T (valid q) → (near inner : Bool) → Small (windowFor q near inner)
+unfolding windowFor
+window-small q v near inner = go near inner (valid-small q v) (proper q v)
+  where
+    go : (a b : Bool) → Small q → Proper q → Small (cond b (drawn q) (cond a q (rectOf 0 0 EDGE EDGE)))
+    go a true s o = record { x-start = omega (arith, s .x-end, o .on-x); y-start = omega (arith, s .y-end, o .on-y); x-end = omega (arith, s .x-end); y-end = omega (arith, s .y-end) }
+    go true false s o = s
+    go false false s o = record { x-start = omega arith; y-start = omega arith; x-end = omega arith; y-end = omega arith }
+
+pub made-small : (q w : Rect) → T (valid q) → (near inner : Bool) → w ≡ windowFor q near inner → Small w
+made-small q w v near inner e = rw e (window-small q v near inner)
+
+roomy : (q w : Rect) → Small w → Roomy (frameOf q w)
+roomy q w s = record { x-start = omega arith; y-start = omega arith; x-end = omega arith; y-end = omega arith; x-most = omega (arith, s .x-start) }
+
+unpacked : (q w : Rect) → Small w → windowOf (frameOf q w) ≡ w
+unpacked q w s =
+    let x1 : MOST + w .x1 - MOST ≡ w .x1 = omega arith in
+    let y1 : MOST + w .y1 - MOST ≡ w .y1 = omega arith in
+    let x2 : MOST - (MOST - w .x2) ≡ w .x2 = omega (arith, s .x-end) in
+    let y2 : MOST - (MOST - w .y2) ≡ w .y2 = omega (arith, s .y-end) in
+    λ i. record { x1 = x1 i; y1 = y1 i; x2 = x2 i; y2 = y2 i }
 
 module _ (rows : List ℕ) (q : Rect) (v : T (valid q)) where
   o : Proper q
@@ -86,28 +108,28 @@ module _ (rows : List ℕ) (q : Rect) (v : T (valid q)) where
     past-reference n (on-y h) = shut-on-y (near-shut rows n (apart (p .y1) (p .y2) (q .y1) (q .y2) (o .on-y) h))
     past-reference n (on-x h) = shut-on-x (near-shut rows n (apart (p .x1) (p .x2) (q .x1) (q .x2) (o .on-x) h))
 
-    past-words : p .x1 ≤ WORD_MAX → p .y1 ≤ WORD_MAX → Side (rectOf 0 0 WORD_MAX WORD_MAX) p → opensBy (joinedOf rows) q p ≡ false
-    past-words x y (on-y (inl h)) = absurd (omega arith)
-    past-words x y (on-y (inr h)) = absurd (omega arith)
-    past-words x y (on-x (inl h)) = absurd (omega arith)
-    past-words x y (on-x (inr h)) = absurd (omega arith)
+    past-all : Small p → Side (rectOf 0 0 EDGE EDGE) p → opensBy (joinedOf rows) q p ≡ false
+    past-all s (on-y (inl h)) = absurd (omega (arith, s .y-start))
+    past-all s (on-y (inr h)) = absurd (omega arith)
+    past-all s (on-x (inl h)) = absurd (omega (arith, s .x-start))
+    past-all s (on-x (inr h)) = absurd (omega arith)
 
-    past : p .x1 ≤ WORD_MAX → p .y1 ≤ WORD_MAX → (near inner : Bool) → nearBy (joinedOf rows) ≡ near → innerBy (joinedOf rows) ≡ inner → Side (windowFor q near inner) p → opensBy (joinedOf rows) q p ≡ false
+    past : Small p → (near inner : Bool) → nearBy (joinedOf rows) ≡ near → innerBy (joinedOf rows) ≡ inner → Side (windowFor q near inner) p → opensBy (joinedOf rows) q p ≡ false
     unfolding windowFor
-    past x y near true n i s = past-drawn i s
-    past x y true false n i s = past-reference n s
-    past x y false false n i s = past-words x y s
+    past m near true n i s = past-drawn i s
+    past m true false n i s = past-reference n s
+    past m false false n i s = past-all m s
 
   abbrev window : Rect
   window = windowFor q (nearBy (joinedOf rows)) (innerBy (joinedOf rows))
 
-  shut-out : (p : Rect) → p .x1 ≤ WORD_MAX → p .y1 ≤ WORD_MAX → beyond window p ≡ true → opensBy (joinedOf rows) q p ≡ false
-  shut-out p x y e = past p x y _ _ refl refl (side window p e)
+  shut-out : (p : Rect) → Small p → beyond window p ≡ true → opensBy (joinedOf rows) q p ≡ false
+  shut-out p m e = past p m _ _ refl refl (side window p e)
 
   module _ (w : overlapBy rows (joinedOf rows) ≡ true) (p : Rect) (e : beyond window p ≡ false) where
     m : In (drawn q) p
     unfolding windowFor overlapBy
-    m = within (drawn q) p (sym (ap (λ (i : Bool). beyond (cond i (drawn q) (cond (nearBy (joinedOf rows)) q (rectOf 0 0 WORD_MAX WORD_MAX))) p) (and-left (innerBy (joinedOf rows)) (wholeBy rows) w)) ∙ e)
+    m = within (drawn q) p (sym (ap (λ (i : Bool). beyond (cond i (drawn q) (cond (nearBy (joinedOf rows)) q (rectOf 0 0 EDGE EDGE))) p) (and-left (innerBy (joinedOf rows)) (wholeBy rows) w)) ∙ e)
 
     i : Overlapping (codeY q p)
     i = overlapping (p .y1) (p .y2) (q .y1) (q .y2) (omega (arith, m .y-low, o .on-y)) (omega (arith, m .y-high))
@@ -123,15 +145,36 @@ module _ (rows : List ℕ) (q : Rect) (v : T (valid q)) where
     unfolding admitsBy overlapBy
     taken-leaf = whole-leaf rows (and-right (innerBy (joinedOf rows)) _ w) (codeY q p) (codeX q p) i j
 
-  leaf-shut : (p : Rect) → p .x1 ≤ WORD_MAX → p .y1 ≤ WORD_MAX → beyond window p ≡ true → admitsBy rows q p ≡ false
+  leaf-shut : (p : Rect) → Small p → beyond window p ≡ true → admitsBy rows q p ≡ false
   unfolding admitsBy opensBy
-  leaf-shut p x y e =
-      leaf-less rows (codeY q p) (codeX q p) (is-code (p .y1) (p .y2) (q .y1) (q .y2)) (is-code (p .x1) (p .x2) (q .x1) (q .x2)) (shut-out p x y e)
+  leaf-shut p m e =
+      leaf-less rows (codeY q p) (codeX q p) (is-code (p .y1) (p .y2) (q .y1) (q .y2)) (is-code (p .x1) (p .x2) (q .x1) (q .x2)) (shut-out p m e)
+
+  -- the frame has the window
+  back : windowOf (frameOf q window) ≡ window
+  back = unpacked q window (window-small q v _ _)
+
+  room : Roomy (frameOf q window)
+  room = roomy q window (window-small q v _ _)
 
   -- the frame that a query makes
   module _ (below f : List ℕ) (whole : Bool) (joined : below ≡ joinedOf rows) (made : f ≡ frameOf q (windowFor q (nearBy below) (innerBy below))) (w : whole ≡ overlapBy rows below) where
     pub known-pages : Known f whole (opensBy below)
-    known-pages = rw (made, w, joined) (record { proper = v; fails = shut-out; passes = taken-page })
+    known-pages =
+        rw (made, w, joined)
+        (record {
+          proper = v;
+          room = room;
+          fails = λ p m e. shut-out p m (sym (ap (λ x. beyond x p) back) ∙ e);
+          passes = λ o p e. taken-page o p (sym (ap (λ x. beyond x p) back) ∙ e);
+        })
 
     pub known-leaves : Known f whole (admitsBy rows)
-    known-leaves = rw (made, w, joined) (record { proper = v; fails = leaf-shut; passes = taken-leaf })
+    known-leaves =
+        rw (made, w, joined)
+        (record {
+          proper = v;
+          room = room;
+          fails = λ p m e. leaf-shut p m (sym (ap (λ x. beyond x p) back) ∙ e);
+          passes = λ o p e. taken-leaf o p (sym (ap (λ x. beyond x p) back) ∙ e);
+        })

@@ -9,6 +9,8 @@ pub mod Pieces
 pub mod Found
 pub mod Root
 pub mod Tests
+pub mod Halves
+pub mod Edges
 pub mod Known
 pub mod Calls
 pub mod Whole

@@ -7,16 +7,17 @@ use mathlib.Core.Path.{_≡_, refl, sym, ap, ap₂, _∙_}
 use mathlib.Core.Logic.{_≢_}
 use mathlib.Core.Bool.{Bool, true, false, _||_, cond, or-true, or-false, or-assoc}
 use mathlib.Core.List.{List, [], _∷_, _++_, append-nil, append-assoc}
-use lib.ListN.{length, getD, replicate, length-set, length-replicate, length-append}
-use lib.Seq.{getD-set-same, getD-set-other, sets}
-use lib.Bits.{bitOr, or-lt}
+use lib.ListN.{length, getD, set, replicate, length-set, length-replicate, length-append}
+use lib.Seq.{getD-set-same, getD-set-other, set-getD, sets}
+use lib.Bits.{bitOr, or-lt, or-zero-r}
+use mir.Val.{boolByte}
 use lib.Pow.{pow-lt}
 use lib.Count.{trailingZeros}
 use lib.Dec.{ltb, eqb}
 use borrow.Author.Tests.{lt-ltb, eq-eqb, ne-eqb}
 use Rattle.relations.specs.Sets.{bit, onesFrom}
 use Rattle.relations.proofs.Bits.{bit-half, bit-none, bit-or}
-use Rattle.relations.proofs.Lowest.{ones-none, lowestOne, Lowest, lowest}
+use Rattle.relations.proofs.Lowest.{one-shifted, ones-none, lowestOne, Lowest, lowest}
 use Rattle.pages.specs.Sizes.{PIECES}
 use Rattle.pages.specs.Lists.{one, concatMap, Every}
 use Rattle.pages.proofs.Lists.{not-both}
@@ -26,6 +27,22 @@ use Rattle.query.specs.Calls.{times}
 use Rattle.query.specs.Steps.{MARK_BITS, MARK_WORDS, isMarked, withBit, withMark, marked, Summed, markedNumbers}
 use Rattle.query.proofs.Concat.{concat-append, sets-append}
 use Rattle.query.proofs.Bits.{bit-pow, none-left}
+
+-- the bit of a hit is set, and else nothing changes
+hit-bit : (hit : Bool) (m : List ℕ) (w j : ℕ) → j < MARK_BITS → set m w (bitOr (getD m w 0) (boolByte hit * 2 ^ j % 2 ^ 64)) ≡ cond hit (withBit m w j) m
+hit-bit true m w j l = ap (λ x. set m w (bitOr (getD m w 0) x)) (one-shifted 64 j l)
+hit-bit false m w j l = ap (λ x. set m w (bitOr (getD m w 0) x)) (omega arith) ∙ ap (set m w) (or-zero-r (getD m w 0)) ∙ set-getD m w 0
+
+pub hit-mark : (hit : Bool) (m m′ : List ℕ) (r : ℕ) → r < PIECES → m′ ≡ set m (r / MARK_BITS) (bitOr (getD m (r / MARK_BITS) 0) (boolByte hit * 2 ^ (r % MARK_BITS) % 2 ^ 64))
+    → set m′ MARK_WORDS (bitOr (getD m′ MARK_WORDS 0) (boolByte hit * 2 ^ (r / MARK_BITS) % 2 ^ 64)) ≡ cond hit (withMark m r) m
+unfolding withMark
+hit-mark hit m m′ r l e =
+    hit-bit hit m′ MARK_WORDS (r / MARK_BITS) (omega arith) ∙ ap (λ x. cond hit (withBit x MARK_WORDS (r / MARK_BITS)) x) (e ∙ hit-bit hit m (r / MARK_BITS) (r % MARK_BITS) (omega arith)) ∙ go hit
+  where
+    go : (h : Bool) → cond h (withBit (cond h (withBit m (r / MARK_BITS) (r % MARK_BITS)) m) MARK_WORDS (r / MARK_BITS)) (cond h (withBit m (r / MARK_BITS) (r % MARK_BITS)) m)
+        ≡ cond h (withBit (withBit m (r / MARK_BITS) (r % MARK_BITS)) MARK_WORDS (r / MARK_BITS)) m
+    go true = refl
+    go false = refl
 
 pub mark-at : (m : List ℕ) (r c : ℕ) → MARK_WORDS < length m → c < PIECES → isMarked (withMark m r) c ≡ (isMarked m c || eqb r c)
 unfolding isMarked withMark

@@ -1,18 +1,13 @@
 -- The tests by row sets and by joined rows are those of the definitions; an admitted rectangle reaches the page that holds it.
-use Prim.Native.Nat.{ℕ, zero, suc, _-_, _<_}
+use Prim.Native.Nat.{ℕ, zero, suc, _<_}
 use native.Mathlib.Omega.{arith}
-use mathlib.Core.Path.{_≡_, refl, ap, _∙_}
+use mathlib.Core.Path.{_≡_, refl}
 use mathlib.Core.Logic.{_↔_}
-use mathlib.Core.Bool.{true, false, _&&_, and-false}
+use mathlib.Core.Bool.{true}
 use mathlib.Core.List.{List, [], _∷_}
-use lib.ListN.{getD}
 use lib.Dec.{T, leb, ltb, ltb→lt}
-use Rattle.relations.specs.Sets.{bit}
-use Rattle.relations.specs.Axis.{CODES}
 use Rattle.relations.specs.Query.{refusalOf, rowSets, answer, admittedOf}
-use Rattle.relations.specs.Nodes.{inside}
-use Rattle.relations.specs.Steps.{joinedOf, pageTest, rowsHave}
-use Rattle.relations.proofs.Bits.{bit-none, none-below}
+use Rattle.relations.specs.Steps.{joinedOf}
 use Rattle.relations.proofs.Sides.{is-code}
 use Rattle.relations.proofs.Pages.{rows-have, page-test, may-hold, holds-inside}
 use Rattle.pages.specs.declared.Rect.{Rect}
@@ -23,16 +18,6 @@ use Rattle.pages.proofs.Walk.{Within}
 use Rattle.query.specs.Admission.{codeY, codeX, admitsRect, opens}
 use Rattle.query.specs.Demand2.{QuarterIn}
 use Rattle.query.specs.Steps.{admitsBy, opensBy}
-
--- a row that is empty admits nothing, and holds nothing below it
-pub empty-row : (rows : List ℕ) (i j : ℕ) → getD rows (i - 1) 0 ≡ 0 → rowsHave rows i j ≡ false
-unfolding rowsHave
-empty-row rows i j e = ap (λ r. bit r (j - 1)) e ∙ bit-none (j - 1)
-
-pub empty-below : (below : List ℕ) (cy cx : ℕ) → getD below (cy - 1) 0 ≡ 0 → pageTest below cy cx ≡ false
-unfolding pageTest
-empty-below below cy cx e =
-    none-below (λ k. inside cx (suc k) && bit (getD below (cy - 1) 0) k) CODES (λ k l. ap (λ b. inside cx (suc k) && b) (ap (λ r. bit r k) e ∙ bit-none k) ∙ and-false (inside cx (suc k)))
 
 pub admits-same : (clauses : List ℕ) (q : Rect) → admitsBy (rowSets clauses) q ≡ admitsRect clauses q
 unfolding admitsBy admitsRect

@@ -39,13 +39,17 @@ module _ (f : Entry → List ℕ) (es : List Entry) (i : ℕ) (e : Entry) (il : 
 -- a leaf's entry
 module _ (admit : Rect → Bool) (es : List Entry) (i : ℕ) (e : Entry) (il : i < length es) (at : e ≡ getD es i noEntry) (m₀ m : List ℕ)
     (so-far : m ≡ marked m₀ (concatMap (admittedR admit) (take i es))) where
-  pub leaf-hit : (m′ : List ℕ) → admit (e .rect) ≡ true → m′ ≡ withMark m (e .r) → m′ ≡ marked m₀ (concatMap (admittedR admit) (take (i + 1) es))
+  leaf-hit : (m′ : List ℕ) → admit (e .rect) ≡ true → m′ ≡ withMark m (e .r) → m′ ≡ marked m₀ (concatMap (admittedR admit) (take (i + 1) es))
   unfolding marked
   leaf-hit m′ y q = more-marks (admittedR admit) es i e il at (e .r ∷ []) m₀ m m′ (rw y) so-far q
 
   pub leaf-miss : admit (e .rect) ≡ false → m ≡ marked m₀ (concatMap (admittedR admit) (take (i + 1) es))
   unfolding marked
   leaf-miss y = more-marks (admittedR admit) es i e il at [] m₀ m m (rw y) so-far refl
+
+  pub leaf-tested : (m′ : List ℕ) (hit : Bool) → hit ≡ admit (e .rect) → m′ ≡ cond hit (withMark m (e .r)) m → m′ ≡ marked m₀ (concatMap (admittedR admit) (take (i + 1) es))
+  leaf-tested m′ true y q = leaf-hit m′ (sym y) q
+  leaf-tested m′ false y q = q ∙ leaf-miss (sym y)
 
 module _ (opens : Rect → Bool) (ps : List Page) where
   -- the pages that an entry above the leaves opens

@@ -1,17 +1,17 @@
 -- What the inner functions are held to: the tests on rows, the piece numbers that a walk meets, and marks as bits.
-use Prim.Native.Nat.{ℕ, zero, suc, _+_, _-_, _/_, _%_, _^_, _≤_, _<_}
+use Prim.Native.Nat.{ℕ, zero, suc, _+_, _-_, _*_, _/_, _%_, _^_, _≤_, _<_}
 use mathlib.Core.Bool.{Bool, true, false, cond, _||_}
 use mathlib.Core.Path.{_≡_}
 use mathlib.Core.List.{List, [], _∷_, _++_}
 use lib.ListN.{length, getD, drop, set}
 use lib.Bits.{bitOr}
-use lib.Dec.{T, ltb, eqb}
+use lib.Dec.{T, leb, ltb, eqb}
 use Rattle.pages.specs.Lists.{concatMap}
 use Rattle.relations.specs.Sets.{bit}
 use Rattle.relations.specs.Steps.{pageTest, rowsHave}
 use Rattle.pages.specs.declared.Rect.{Rect}
 use Rattle.pages.specs.declared.Entry.{Entry}
-use Rattle.pages.specs.Sizes.{TABLE_WORDS, PIECES}
+use Rattle.pages.specs.Sizes.{TABLE_WORDS, PIECES, EDGE}
 use Rattle.pages.specs.Rectangles.{rectOf, valid}
 use Rattle.pages.specs.Refusals.{ACCEPTED}
 use Rattle.pages.specs.Layout.{Page, Table, pageAt, page, tableIn}
@@ -28,32 +28,63 @@ pub record SoundPage (w : List ℕ) (p l : ℕ) : Type 0 where
   pub inside : p < length (tableIn w .pages)
   pub level : page (tableIn w) p .level ≡ l
 
--- a walk carries eight words: the reference's edges, and those of the window
+-- "none exceeds 1,000,000"
+pub record Small (r : Rect) : Type 0 where
+  pub x-start : r .x1 ≤ EDGE
+  pub y-start : r .y1 ≤ EDGE
+  pub x-end : r .x2 ≤ EDGE
+  pub y-end : r .y2 ≤ EDGE
+
+-- a packed word has an x in its lower half and a y in its upper half
+abbrev pub HALF : ℕ
+HALF = 4_294_967_296
+
+abbrev pub packedOf : ℕ → ℕ → ℕ
+packedOf x y = y * HALF + x
+
+-- the highest bit of one of the halves is set
+abbrev pub TOP : ℕ
+TOP = 2_147_483_648
+
+unfoldable pub over : ℕ → Bool
+over a = leb (TOP * HALF) a || leb TOP (a % HALF)
+
+-- the most that leaves the highest bit of a half alone
+abbrev pub MOST : ℕ
+MOST = 2_147_483_647
+
+-- a walk carries eight words: the edges of the reference q, and the window w by what sets a highest bit beyond it
 abbrev pub frameOf : Rect → Rect → List ℕ
-frameOf q w = q .x1 ∷ q .y1 ∷ q .x2 ∷ q .y2 ∷ w .x1 ∷ w .y1 ∷ w .x2 ∷ w .y2 ∷ []
+frameOf q w = q .x1 ∷ q .y1 ∷ q .x2 ∷ q .y2 ∷ (MOST - w .x2) ∷ (MOST - w .y2) ∷ (MOST + w .x1) ∷ (MOST + w .y1) ∷ []
 
 abbrev pub referenceOf : List ℕ → Rect
 referenceOf f = rectOf (getD f 0 0) (getD f 1 0) (getD f 2 0) (getD f 3 0)
 
 abbrev pub windowOf : List ℕ → Rect
-windowOf f = rectOf (getD f 4 0) (getD f 5 0) (getD f 6 0) (getD f 7 0)
+windowOf f = rectOf (getD f 6 0 - MOST) (getD f 7 0 - MOST) (MOST - getD f 4 0) (MOST - getD f 5 0)
 
-abbrev pub WORD_MAX : ℕ
-WORD_MAX = 4_294_967_295
+-- the words of a window
+pub record Roomy (f : List ℕ) : Type 0 where
+  pub x-start : getD f 4 0 ≤ MOST
+  pub y-start : getD f 5 0 ≤ MOST
+  pub x-end : MOST ≤ getD f 6 0
+  pub y-end : MOST ≤ getD f 7 0
+  pub x-most : getD f 6 0 ≤ MOST + EDGE
 
 -- drawn in by one unit where nothing is admitted that does not overlap the reference, the reference itself where nothing
--- beyond it is, else all that words can hold
+-- beyond it is, else all that pieces can cover
 unfoldable pub windowFor : Rect → Bool → Bool → Rect
-windowFor q near inner = cond inner (rectOf (q .x1 + 1) (q .y1 + 1) (q .x2 - 1) (q .y2 - 1)) (cond near q (rectOf 0 0 WORD_MAX WORD_MAX))
+windowFor q near inner = cond inner (rectOf (q .x1 + 1) (q .y1 + 1) (q .x2 - 1) (q .y2 - 1)) (cond near q (rectOf 0 0 EDGE EDGE))
 
--- p lies beyond q on one of its sides
+-- p lies beyond q on one of its sides: it starts past an end of q, or ends before a start of it
 unfoldable pub beyond : Rect → Rect → Bool
-beyond q p = (ltb (q .y2) (p .y1) || ltb (p .y2) (q .y1)) || (ltb (q .x2) (p .x1) || ltb (p .x2) (q .x1))
+beyond q p = (ltb (q .y2) (p .y1) || ltb (q .x2) (p .x1)) || (ltb (p .y2) (q .y1) || ltb (p .x2) (q .x1))
 
 -- the frame of a valid reference: what lies beyond its window fails the test, and where `whole` holds all else passes it
 pub record Known (f : List ℕ) (whole : Bool) (test : Rect → Rect → Bool) : Type 0 where
   pub proper : T (valid (referenceOf f))
-  pub fails : (p : Rect) → p .x1 ≤ WORD_MAX → p .y1 ≤ WORD_MAX → beyond (windowOf f) p ≡ true → test (referenceOf f) p ≡ false
+  pub room : Roomy f
+  pub fails : (p : Rect) → Small p → beyond (windowOf f) p ≡ true → test (referenceOf f) p ≡ false
   pub passes : whole ≡ true → (p : Rect) → beyond (windowOf f) p ≡ false → test (referenceOf f) p ≡ true
 
 -- the leaf test by row sets, the page test by joined rows

@@ -2,6 +2,7 @@
 use pages::PAGE_COUNT;
 use pages::PIECE_COUNT;
 use pages::ROOT;
+ghost use mathlib.Core.Bool.{false, cond};
 ghost use mathlib.Core.Path.{_≡_};
 ghost use Prim.Native.Nat.{_+_, _*_, _≤_, _<_};
 ghost use lib.ListN.{length, getD};
@@ -17,7 +18,7 @@ ghost use Rattle.pages.specs.Layout.{noEntry, page, tableIn};
 ghost use Rattle.query.specs.Admission.{codeY, codeX};
 ghost use Rattle.query.specs.Opening.{openedUnder, openedPages};
 ghost use Rattle.query.specs.Calls.{refusalFrom, querySound, queryCall, OpenedWords, frontOf};
-ghost use Rattle.query.specs.Steps.{SoundPage, openedListed, frameOf, referenceOf, windowOf, windowFor, beyond, Known, admitsBy, opensBy, admittedR, hitsUnder, hitsFrom, MARK_BITS, withMark, marked, Summed, markedNumbers};
+ghost use Rattle.query.specs.Steps.{SoundPage, Small, openedListed, packedOf, over, frameOf, referenceOf, windowOf, windowFor, beyond, Roomy, Known, admitsBy, opensBy, admittedR, hitsUnder, hitsFrom, MARK_BITS, withMark, marked, Summed, markedNumbers};
 use pages::Entry;
 use pages::Rect;
 use relations::CODES;
@@ -29,8 +30,16 @@ const MARK_WORDS: usize = 16;
 // The words of marks and, behind them, one whose bit w says that word w has a mark.
 const MARKS: usize = MARK_WORDS + 1;
 
-// A walk carries a frame: the reference's four edges, then those of the window, beyond which nothing passes a test. It is
-// lent as an array, since a struct is copied by every call.
+// A packed word has an x in its lower half and a y in its upper half; no edge reaches a half's highest bit.
+const HALF: u64 = 4_294_967_296;
+
+const TOP: u64 = 2_147_483_648;
+
+const MOST: u32 = 2_147_483_647;
+
+// A walk carries a frame: the reference's four edges, then the window, beyond which nothing passes a test. Of the window it has
+// what a rectangle's start may grow by, and what its end is taken from, before the highest bit of a half is set. It is lent as
+// an array, since a struct is copied by every call.
 const FRAME_WORDS: usize = 8;
 
 const X1: usize = 0;
@@ -41,13 +50,13 @@ const X2: usize = 2;
 
 const Y2: usize = 3;
 
-const WINDOW_X1: usize = 4;
+const START_X: usize = 4;
 
-const WINDOW_Y1: usize = 5;
+const START_Y: usize = 5;
 
-const WINDOW_X2: usize = 6;
+const END_X: usize = 6;
 
-const WINDOW_Y2: usize = 7;
+const END_Y: usize = 7;
 
 // What a query answers: its refusal, how many pieces it listed, and how many pages it opened.
 #[repr(C)]
@@ -89,16 +98,16 @@ fn size_of(table: &[u32], p: usize, level: usize) -> usize
     to_index(pages::page_of(table, p)[pages::COUNT])
 }
 
-// The entry at place i of a page of a sound table.
+// The entry at place i of a page of a sound table; none of its edges exceeds 1,000,000.
 fn entry_at(table: &[u32], p: usize, level: usize, i: usize) -> Entry
     requires { ⌜ SoundPage (now table) p level × (i < length (page (tableIn (now table)) p .entries)) ⌝ }
-    ensures { λ r. ⌜ r ≡ getD (page (tableIn (now (table .entry))) p .entries) i noEntry ⌝ }
+    ensures { λ r. ⌜ (r ≡ getD (page (tableIn (now (table .entry))) p .entries) i noEntry) × Small (r .rect) ⌝ }
 {
     pages::entry_of(pages::page_of(table, p), i)
 }
 
 // The window of a reference: drawn in by one unit where nothing is admitted that does not overlap the reference, the reference
-// itself where nothing beyond it is, else all that words can hold.
+// itself where nothing beyond it is, else all that pieces can cover.
 fn window(q: Rect, near: bool, inner: bool) -> Rect
     requires { ⌜ T (valid q) ⌝ }
     ensures { λ r. ⌜ r ≡ windowFor q near inner ⌝ }
@@ -117,8 +126,8 @@ fn window(q: Rect, near: bool, inner: bool) -> Rect
     Rect {
         x1: 0,
         y1: 0,
-        x2: u32::MAX,
-        y2: u32::MAX,
+        x2: pages::EDGE,
+        y2: pages::EDGE,
     }
 }
 
@@ -130,17 +139,40 @@ fn framed(q: Rect, below: &[u16; CODES], masks: &[u16; CODES]) -> [u32; FRAME_WO
     let near = relations::is_near(below, masks);
     let inner = relations::is_inner(below, masks);
     let w = window(q, near, inner);
-    [q.x1, q.y1, q.x2, q.y2, w.x1, w.y1, w.x2, w.y2]
+    [
+        q.x1,
+        q.y1,
+        q.x2,
+        q.y2,
+        MOST - w.x2,
+        MOST - w.y2,
+        MOST + w.x1,
+        MOST + w.y1,
+    ]
 }
 
-// Whether a rectangle lies beyond the window on one of its sides. The four tests are joined without a branch: where no code is
-// asked afterwards they are made at once.
+fn packed(x: u32, y: u32) -> u64
+    ensures { λ r. ⌜ r ≡ packedOf x y ⌝ }
+{
+    y as u64 * HALF + x as u64
+}
+
+// Whether the highest bit of one of the halves is set.
+fn is_over(word: u64) -> bool
+    ensures { λ r. ⌜ r ≡ over word ⌝ }
+{
+    (word >= TOP * HALF) | (word % HALF >= TOP)
+}
+
+// Whether a rectangle lies beyond the window on one of its sides. A sum and a difference of packed words test both axes at
+// once: of four branches the processor could foretell none.
 fn is_beyond(frame: &[u32; FRAME_WORDS], rect: Rect) -> bool
+    requires { ⌜ Roomy (now frame) × Small rect ⌝ }
     ensures { λ r. ⌜ r ≡ beyond (windowOf (now (frame .entry))) rect ⌝ }
 {
-    let over_y = (rect.y1 > frame[WINDOW_Y2]) | (rect.y2 < frame[WINDOW_Y1]);
-    let over_x = (rect.x1 > frame[WINDOW_X2]) | (rect.x2 < frame[WINDOW_X1]);
-    over_y | over_x
+    let starts = packed(rect.x1, rect.y1) + packed(frame[START_X], frame[START_Y]);
+    let ends = packed(frame[END_X], frame[END_Y]) - packed(rect.x2, rect.y2);
+    is_over(starts) | is_over(ends)
 }
 
 fn code_y(frame: &[u32; FRAME_WORDS], rect: Rect) -> usize
@@ -157,26 +189,20 @@ fn code_x(frame: &[u32; FRAME_WORDS], rect: Rect) -> usize
     relations::axis_code(rect.x1, rect.x2, frame[X1], frame[X2])
 }
 
-// Whether a piece's rectangle is admitted. Where the window does not decide most fail on y, where their row is empty.
+// Whether a piece's rectangle, which is not beyond the window, is admitted.
 fn admits(rows: &[u16; CODES], frame: &[u32; FRAME_WORDS], whole: bool, rect: Rect) -> bool
-    requires { ⌜ Known (now frame) whole (admitsBy (now rows)) ⌝ }
+    requires { ⌜ Known (now frame) whole (admitsBy (now rows)) × (beyond (windowOf (now frame)) rect ≡ false) ⌝ }
     ensures { λ r. ⌜ r ≡ admitsBy (now (rows .entry)) (referenceOf (now (frame .entry))) rect ⌝ }
 {
-    if is_beyond(frame, rect) {
-        return false;
-    }
     if whole {
         return true;
     }
     let i = code_y(frame, rect);
-    if rows[i - 1] == 0 {
-        return false;
-    }
     let j = code_x(frame, rect);
     relations::leaf_test(rows, i, j)
 }
 
-// Whether a page's rectangle may hold an admitted one; y first, as above.
+// Whether a page's rectangle may hold an admitted one.
 fn opens(
     below: &[u16; CODES],
     masks: &[u16; CODES],
@@ -184,7 +210,7 @@ fn opens(
     whole: bool,
     rect: Rect,
 ) -> bool
-    requires { ⌜ Known (now frame) whole (opensBy (now below)) × (now masks ≡ nodeMasks) ⌝ }
+    requires { ⌜ Known (now frame) whole (opensBy (now below)) × (now masks ≡ nodeMasks) × Small rect ⌝ }
     ensures { λ r. ⌜ r ≡ opensBy (now (below .entry)) (referenceOf (now (frame .entry))) rect ⌝ }
 {
     if is_beyond(frame, rect) {
@@ -194,20 +220,19 @@ fn opens(
         return true;
     }
     let cy = code_y(frame, rect);
-    if below[cy - 1] == 0 {
-        return false;
-    }
     let cx = code_x(frame, rect);
     relations::page_test(below, masks, cy, cx)
 }
 
-fn mark(marks: &mut [u64; MARKS], r: u32)
+// Marks r where it is a hit, without a branch, which the processor could not foretell.
+fn mark(marks: &mut [u64; MARKS], r: u32, hit: bool)
     requires { ⌜ r < PIECES ⌝ }
-    ensures { λ _. ⌜ now (marks .exit) ≡ withMark (now (marks .entry)) r ⌝ }
+    ensures { λ _. ⌜ now (marks .exit) ≡ cond hit (withMark (now (marks .entry)) r) (now (marks .entry)) ⌝ }
 {
     let at = (r / MARK_BITS) as usize;
-    marks[at] |= 1u64 << (r % MARK_BITS);
-    marks[MARK_WORDS] |= 1u64 << at;
+    let bit = hit as u64;
+    marks[at] |= bit << (r % MARK_BITS);
+    marks[MARK_WORDS] |= bit << at;
 }
 
 // Marks the admitted pieces of a leaf.
@@ -225,8 +250,9 @@ fn mark_leaf(
     let n = size_of(table, p, 0);
     for i in 0..n {
         let e = entry_at(table, p, 0, i);
-        if admits(rows, frame, whole, e.rect) {
-            mark(marks, e.r);
+        if !is_beyond(frame, e.rect) {
+            let hit = admits(rows, frame, whole, e.rect);
+            mark(marks, e.r, hit);
         }
     }
 }

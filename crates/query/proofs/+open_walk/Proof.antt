@@ -85,7 +85,7 @@ open-walk-entry-at-requires t c κs =
 open-walk-opens-requires : (t : ℕ) → open-walk-lts.Need-opens-requires (open-walk-cs t) (open-walk-at t) open-walk.Post open-walk-Inv-loop open-walk-μ-loop
 open-walk-opens-requires t c κs =
     let g = c .before .before .before .before .before .before .before .pre .1 in
-    (g .2, g .3)
+    (g .2, g .3, c .entry-at .ensures .1)
 
 open-walk-sub-open-walk : (t : ℕ) → open-walk-lts.Need-sub-open-walk (open-walk-cs t) (open-walk-at t) open-walk.Post open-walk-Inv-loop open-walk-μ-loop
 open-walk-sub-open-walk t c = search needs
@@ -105,8 +105,8 @@ open-walk-open-walk-requires t c κs =
     let k : length (l .answer) ≡ length (a .answer .now) = ap length (l .inv .2 .1) ∙ simp (length-sets, length-set) in (
       omega arith,
       (
-        same-page _ _ _ _ (c .before .to-index .ensures ∙ ap (λ x. x .r) (e .ensures)) (child-page _ _ _ (g .pre .1 .0) (l .i) z il),
-        rw k (child-room (opensBy (a .below .now) (referenceOf (a .frame .now))) (tableIn (a .table .now) .pages) (a .level) (a .p) (l .i) (e .result) _ (c .before .to-index .ensures) (a .at) (l .next) _ z il (e .ensures) y (l .inv .2 .0) (g .pre .1 .1)),
+        same-page _ _ _ _ (c .before .to-index .ensures ∙ ap (λ x. x .r) (e .ensures .0)) (child-page _ _ _ (g .pre .1 .0) (l .i) z il),
+        rw k (child-room (opensBy (a .below .now) (referenceOf (a .frame .now))) (tableIn (a .table .now) .pages) (a .level) (a .p) (l .i) (e .result) _ (c .before .to-index .ensures) (a .at) (l .next) _ z il (e .ensures .0) y (l .inv .2 .0) (g .pre .1 .1)),
         g .pre .1 .2,
         g .pre .1 .3,
       ),
@@ -129,8 +129,8 @@ open-walk-loop-again t c =
       l .inv .0,
       omega arith,
       ⊎-elim
-          (λ w. let u = writing-open (opensBy (a .below .now) (referenceOf (a .frame .now))) (tableIn (a .table .now) .pages) (a .level - 1) _ (l .i) (e .result) il (e .ensures) (a .at + 1) (l .next) _ (w .1 .ensures) _ (l .answer) _ (w .3 .result) (y ∙ w .0 .taken) (l .inv .2) (w .3 .ensures) in (w .7 ∙ u .0, w .6 ∙ u .1))
-          (λ w. let u = writing-shut (opensBy (a .below .now) (referenceOf (a .frame .now))) (tableIn (a .table .now) .pages) (a .level - 1) _ (l .i) (e .result) il (e .ensures) (a .at + 1) (l .next) _ (l .answer) (y ∙ w .0 .left) (l .inv .2) in (w .2 ∙ u .0, w .1 ∙ u .1))
+          (λ w. let u = writing-open (opensBy (a .below .now) (referenceOf (a .frame .now))) (tableIn (a .table .now) .pages) (a .level - 1) _ (l .i) (e .result) il (e .ensures .0) (a .at + 1) (l .next) _ (w .1 .ensures) _ (l .answer) _ (w .3 .result) (y ∙ w .0 .taken) (l .inv .2) (w .3 .ensures) in (w .7 ∙ u .0, w .6 ∙ u .1))
+          (λ w. let u = writing-shut (opensBy (a .below .now) (referenceOf (a .frame .now))) (tableIn (a .table .now) .pages) (a .level - 1) _ (l .i) (e .result) il (e .ensures .0) (a .at + 1) (l .next) _ (l .answer) (y ∙ w .0 .left) (l .inv .2) in (w .2 ∙ u .0, w .1 ∙ u .1))
           (c .if2 .came),
     )
 

@@ -71,7 +71,7 @@ walk-entry-at-requires t c κs =
 walk-opens-requires : (t : ℕ) → walk-lts.Need-opens-requires (walk-cs t) (walk-at t) walk.Post walk-Inv-loop walk-μ-loop
 walk-opens-requires t c κs =
     let g = c .before .before .before .before .before .before .before .pre .1 in
-    (g .3, g .4)
+    (g .3, g .4, c .entry-at .ensures .1)
 
 walk-sub-walk : (t : ℕ) → walk-lts.Need-sub-walk (walk-cs t) (walk-at t) walk.Post walk-Inv-loop walk-μ-loop
 walk-sub-walk t c = search needs
@@ -88,10 +88,10 @@ walk-walk-requires t c κs =
     let z = c .before .before .before .before .before .before .before .before .before .before .if1 .left in
     let il : l .i < length (page (tableIn (a .table .now .now)) (a .p) .entries) = omega arith in
     let y = sym (c .before .before .before .opens .ensures) ∙ c .before .before .if2 .taken in
-    let few = child-room (opensBy (a .below .now) (referenceOf (a .frame .now))) (tableIn (a .table .now .now) .pages) (a .level) (a .p) (l .i) (e .result) _ (c .before .to-index .ensures) 0 (l .count) PAGES z il (e .ensures) y (l .inv .2 .0) (omega (arith, g .pre .1 .1)) in (
+    let few = child-room (opensBy (a .below .now) (referenceOf (a .frame .now))) (tableIn (a .table .now .now) .pages) (a .level) (a .p) (l .i) (e .result) _ (c .before .to-index .ensures) 0 (l .count) PAGES z il (e .ensures .0) y (l .inv .2 .0) (omega (arith, g .pre .1 .1)) in (
       omega arith,
       (
-        same-page _ _ _ _ (c .before .to-index .ensures ∙ ap (λ x. x .r) (e .ensures)) (child-page _ _ _ (g .pre .1 .0) (l .i) z il),
+        same-page _ _ _ _ (c .before .to-index .ensures ∙ ap (λ x. x .r) (e .ensures .0)) (child-page _ _ _ (g .pre .1 .0) (l .i) z il),
         omega (arith, few),
         g .pre .1 .2,
         g .pre .1 .3,
@@ -108,7 +108,7 @@ walk-add-count t c =
     let z = c .before .before .before .before .before .before .before .before .before .before .before .if1 .left in
     let il : l .i < length (page (tableIn (a .table .now .now)) (a .p) .entries) = omega (arith, c .before .before .before .before .before .before .before .loop-test .taken, l .inv .0) in
     let y = sym (c .before .before .before .before .opens .ensures) ∙ c .before .before .before .if2 .taken in
-    omega (arith, c .walk .ensures .0, child-room (opensBy (a .below .now) (referenceOf (a .frame .now))) (tableIn (a .table .now .now) .pages) (a .level) (a .p) (l .i) (e .result) _ (c .before .before .to-index .ensures) 0 (l .count) PAGES z il (e .ensures) y (l .inv .2 .0) (omega (arith, g .pre .1 .1)))
+    omega (arith, c .walk .ensures .0, child-room (opensBy (a .below .now) (referenceOf (a .frame .now))) (tableIn (a .table .now .now) .pages) (a .level) (a .p) (l .i) (e .result) _ (c .before .before .to-index .ensures) 0 (l .count) PAGES z il (e .ensures .0) y (l .inv .2 .0) (omega (arith, g .pre .1 .1)))
 
 walk-add-i : (t : ℕ) → walk-lts.Need-add-i (walk-cs t) (walk-at t) walk.Post walk-Inv-loop walk-μ-loop
 walk-add-i t c = search needs
@@ -126,8 +126,8 @@ walk-loop-again t c =
       l .inv .0,
       omega arith,
       ⊎-elim
-          (λ w. let u = marking-open (opensBy (a .below .now) (referenceOf (a .frame .now))) (tableIn (a .table .now .now) .pages) (a .level - 1) _ (l .i) (e .result) il (e .ensures) 1 (l .count) _ (w .1 .ensures) (admitsBy (a .rows .now) (referenceOf (a .frame .now))) _ (l .marks) _ _ (y ∙ w .0 .taken) (l .inv .2) (w .3 .ensures) in (w .5 ∙ u .0, w .4 ∙ u .1))
-          (λ w. let u = marking-shut (opensBy (a .below .now) (referenceOf (a .frame .now))) (tableIn (a .table .now .now) .pages) (a .level - 1) _ (l .i) (e .result) il (e .ensures) 1 (l .count) (admitsBy (a .rows .now) (referenceOf (a .frame .now))) _ (l .marks) (y ∙ w .0 .left) (l .inv .2) in (w .2 ∙ u .0, w .1 ∙ u .1))
+          (λ w. let u = marking-open (opensBy (a .below .now) (referenceOf (a .frame .now))) (tableIn (a .table .now .now) .pages) (a .level - 1) _ (l .i) (e .result) il (e .ensures .0) 1 (l .count) _ (w .1 .ensures) (admitsBy (a .rows .now) (referenceOf (a .frame .now))) _ (l .marks) _ _ (y ∙ w .0 .taken) (l .inv .2) (w .3 .ensures) in (w .5 ∙ u .0, w .4 ∙ u .1))
+          (λ w. let u = marking-shut (opensBy (a .below .now) (referenceOf (a .frame .now))) (tableIn (a .table .now .now) .pages) (a .level - 1) _ (l .i) (e .result) il (e .ensures .0) 1 (l .count) (admitsBy (a .rows .now) (referenceOf (a .frame .now))) _ (l .marks) (y ∙ w .0 .left) (l .inv .2) in (w .2 ∙ u .0, w .1 ∙ u .1))
           (c .if2 .came),
     )
 

@@ -1,32 +1,77 @@
--- The four comparisons.
+-- A small rectangle's corners leave room in each half of the packed words.
 use borrow.Author.Needs.{needs}
-use mathlib.Core.Path.{refl}
-use Rattle.query.specs.Steps.{beyond}
+use Prim.Native.Nat.{_+_, _-_}
+use native.Mathlib.Omega.{arith}
+use mathlib.Core.Path.{ap, ap₂, _∙_}
+use mathlib.Core.Bool.{_||_}
+use Rattle.query.specs.Steps.{over}
+use Rattle.query.proofs.Halves.{beyond-packed}
 use Rattle.query.proofs.is_beyond.Statement.{statement}
 use Rattle.query.proofs.is_beyond.Tie as tie
 
-element-copy-out-over-y : tie.Need-element-copy-out-over-y
-element-copy-out-over-y c = search needs
+packed-requires : tie.Need-packed-requires
+packed-requires c κs = search needs
 
-element-copy-out-over-y-2 : tie.Need-element-copy-out-over-y-2
-element-copy-out-over-y-2 c = search needs
+element-copy-out-packed : tie.Need-element-copy-out-packed
+element-copy-out-packed c = search needs
 
-element-copy-out-over-x : tie.Need-element-copy-out-over-x
-element-copy-out-over-x c = search needs
+element-copy-out-packed-2 : tie.Need-element-copy-out-packed-2
+element-copy-out-packed-2 c = search needs
 
-element-copy-out-over-x-2 : tie.Need-element-copy-out-over-x-2
-element-copy-out-over-x-2 c = search needs
+packed-requires-2 : tie.Need-packed-requires-2
+packed-requires-2 c κs = search needs
+
+add-starts : tie.Need-add-starts
+add-starts c =
+    let g = c .before .before .before .before in
+    omega (arith, c .packed2 .ensures, c .before .before .before .packed .ensures, g .pre .0 .x-start, g .pre .0 .y-start, g .pre .1 .x-start, g .pre .1 .y-start)
+
+element-copy-out-packed-3 : tie.Need-element-copy-out-packed-3
+element-copy-out-packed-3 c = search needs
+
+element-copy-out-packed-4 : tie.Need-element-copy-out-packed-4
+element-copy-out-packed-4 c = search needs
+
+packed-requires-3 : tie.Need-packed-requires-3
+packed-requires-3 c κs = search needs
+
+packed-requires-4 : tie.Need-packed-requires-4
+packed-requires-4 c κs = search needs
+
+sub-ends : tie.Need-sub-ends
+sub-ends c =
+    let g = c .before .before .before .before .before .before .before .before in
+    omega (arith, c .packed4 .ensures, c .before .packed3 .ensures, g .pre .0 .x-end, g .pre .0 .y-end, g .pre .1 .x-end, g .pre .1 .y-end)
+
+is-over-requires : tie.Need-is-over-requires
+is-over-requires c κs = search needs
+
+is-over-requires-2 : tie.Need-is-over-requires-2
+is-over-requires-2 c κs = search needs
 
 returns : tie.Need-returns
-unfolding beyond
-returns c = refl
+returns c =
+    let g = c .before .before .before .before .before .before .before .before .before .before in
+    let r = g .pre .0 in
+    ap₂ _||_
+    (c .before .is-over .ensures ∙ ap over (ap₂ _+_ (c .before .before .before .before .before .before .before .before .before .packed .ensures) (c .before .before .before .before .before .before .packed2 .ensures)))
+    (c .is-over2 .ensures ∙ ap over (ap₂ _-_ (c .before .before .before .packed3 .ensures) (c .before .before .packed4 .ensures)))
+    ∙ beyond-packed (g .args .rect) (g .pre .1) _ _ _ _ (r .x-start) (r .y-start) (r .x-end) (r .y-end) (omega (arith, r .x-most))
 
 pub is-beyond-spec : {M : Type 1} → statement M
 is-beyond-spec =
     tie.close
     (tie.spec
-    element-copy-out-over-y
-    element-copy-out-over-y-2
-    element-copy-out-over-x
-    element-copy-out-over-x-2
+    packed-requires
+    element-copy-out-packed
+    element-copy-out-packed-2
+    packed-requires-2
+    add-starts
+    element-copy-out-packed-3
+    element-copy-out-packed-4
+    packed-requires-3
+    packed-requires-4
+    sub-ends
+    is-over-requires
+    is-over-requires-2
     returns)

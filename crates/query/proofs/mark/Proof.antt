@@ -1,14 +1,15 @@
--- One bit of one word, and that word's bit in the last one.
+-- One bit of one word, and that word's bit in the last one, or none.
 use borrow.Author.Needs.{needs}
-use Prim.Native.Nat.{_/_, _%_}
-use native.Mathlib.Omega.{arith}
-use Rattle.relations.proofs.Lowest.{one-shifted}
-use Rattle.query.specs.Steps.{withMark}
+use mathlib.Core.Path.{refl}
+use Rattle.query.proofs.Marks.{hit-mark}
 use Rattle.query.proofs.mark.Statement.{statement}
 use Rattle.query.proofs.mark.Tie as tie
 
 cast-at : tie.Need-cast-at
 cast-at c = search needs
+
+cast-bit : tie.Need-cast-bit
+cast-bit c = search needs
 
 cast-marks : tie.Need-cast-marks
 cast-marks c = search needs
@@ -35,16 +36,16 @@ element-write-marks-2 : tie.Need-element-write-marks-2
 element-write-marks-2 c = search needs
 
 returns : tie.Need-returns
-unfolding withMark
 returns c =
-    let r = c .before .before .args .r in
-    rw (one-shifted 64 (r % 64) (omega arith), one-shifted 64 (r / 64) (omega arith))
+    let a = c .before .before .args in
+    hit-mark (a .hit) (a .marks .now) _ (a .r) (c .before .before .pre) refl
 
 pub mark-spec : {M : Type 1} → statement M
 mark-spec =
     tie.close
     (tie.spec
     cast-at
+    cast-bit
     cast-marks
     shl-marks
     mul-marks

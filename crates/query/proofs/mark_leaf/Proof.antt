@@ -5,12 +5,13 @@ use native.Mathlib.Omega.{arith}
 use mathlib.Core.Path.{_≡_, refl, sym, ap, _∙_}
 use mathlib.Core.Logic.{⊎-elim}
 use lib.ListN.{length, take}
+use borrow.Author.Tests.{not-true, not-false}
 use Rattle.pages.specs.Lists.{concatMap}
 use Rattle.pages.specs.Layout.{page, tableIn}
 use Rattle.query.specs.Steps.{referenceOf, admitsBy, admittedR, marked}
 use Rattle.query.proofs.Reading.{piece-number}
 use Rattle.query.proofs.Concat.{concat-all}
-use Rattle.query.proofs.Walking.{leaf-hit, leaf-miss}
+use Rattle.query.proofs.Walking.{leaf-tested, leaf-miss}
 use Rattle.query.proofs.mark_leaf.Statement.{statement}
 use Rattle.query.proofs.mark_leaf.Tie as tie
 
@@ -30,14 +31,17 @@ loop-holds c = (c .size-of .ensures, search needs, refl)
 entry-at-requires : tie.Need-entry-at-requires Inv-loop μ-loop
 entry-at-requires c κs = search needs
 
+is-beyond-requires : tie.Need-is-beyond-requires Inv-loop μ-loop
+is-beyond-requires c κs = (c .before .before .before .before .before .pre .1 .room, c .entry-at .ensures .1)
+
 admits-requires : tie.Need-admits-requires Inv-loop μ-loop
-admits-requires c κs = search needs
+admits-requires c κs = (c .before .before .before .before .before .before .before .pre .1, sym (c .before .is-beyond .ensures) ∙ not-true _ (c .if1 .taken))
 
 mark-requires : tie.Need-mark-requires Inv-loop μ-loop
 mark-requires c κs =
-    let g = c .before .before .before .before .before .before .before .before in
-    let l = c .before .before .before .before .before .loop in
-    omega (arith, ap (λ x. x .r) (c .before .before .before .entry-at .ensures), piece-number _ _ _ (g .pre .0) (l .i) refl (omega arith))
+    let g = c .before .before .before .before .before .before .before .before .before in
+    let l = c .before .before .before .before .before .before .loop in
+    omega (arith, ap (λ x. x .r) (c .before .before .before .before .entry-at .ensures .0), piece-number _ _ _ (g .pre .0) (l .i) refl (omega arith))
 
 add-i : tie.Need-add-i Inv-loop μ-loop
 add-i c = search needs
@@ -47,16 +51,17 @@ loop-less c = search needs
 
 loop-again : tie.Need-loop-again Inv-loop μ-loop
 loop-again c =
-    let a = c .before .before .before .before .before .before .before .args in
+    let g = c .before .before .before .before .before .before .before in
+    let a = g .args in
     let l = c .before .before .before .before .loop in
     let e = c .before .before .entry-at in
-    let y = sym (c .before .admits .ensures) in
+    let admit = admitsBy (a .rows .now) (referenceOf (a .frame .now)) in
     let il : l .i < length (page (tableIn (a .table .now)) (a .p) .entries) = omega arith in (
       search needs,
       search needs,
       ⊎-elim
-          (λ w. w .3 ∙ leaf-hit (admitsBy (a .rows .now) (referenceOf (a .frame .now))) _ (l .i) (e .result) il (e .ensures) _ (l .marks) (l .inv .2) _ (y ∙ w .0 .taken) (w .2 .ensures))
-          (λ w. w .1 ∙ leaf-miss (admitsBy (a .rows .now) (referenceOf (a .frame .now))) _ (l .i) (e .result) il (e .ensures) _ (l .marks) (l .inv .2) (y ∙ w .0 .left))
+          (λ w. w .4 ∙ leaf-tested admit _ (l .i) (e .result) il (e .ensures .0) _ (l .marks) (l .inv .2) _ _ (w .1 .ensures) (w .3 .ensures))
+          (λ w. w .1 ∙ leaf-miss admit _ (l .i) (e .result) il (e .ensures .0) _ (l .marks) (l .inv .2) (g .pre .1 .fails _ (e .ensures .1) (sym (c .before .is-beyond .ensures) ∙ not-false _ (w .0 .left))))
           (c .if1 .came),
     )
 
@@ -75,6 +80,7 @@ mark-leaf-spec =
     size-of-requires
     loop-holds
     entry-at-requires
+    is-beyond-requires
     admits-requires
     mark-requires
     add-i
