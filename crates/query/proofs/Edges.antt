@@ -49,5 +49,8 @@ entries-small t F (suc l) q ql lv =
     every-map (Fits (t .pages) (suc l)) (λ e. Small (e .rect)) (λ e f. rw (f .exact) (bounds-small (page t (e .r) .entries) (entries-small t F l (e .r) (f .inside) (omega (arith, f .lower))))) (page t q .entries)
     (fits-above t F l q ql lv)
 
+pub page-small : (w : List ℕ) (p l : ℕ) → SoundPage w p l → Every (λ e. Small (e .rect)) (page (tableIn w) p .entries)
+page-small w p l s = entries-small (tableIn w) (page-facts w p l s) l p (s .inside) (s .level)
+
 pub entry-small : (w : List ℕ) (p l : ℕ) → SoundPage w p l → (i : ℕ) → i < length (page (tableIn w) p .entries) → Small (getD (page (tableIn w) p .entries) i noEntry .rect)
-entry-small w p l s i il = every-at (λ e. Small (e .rect)) (page (tableIn w) p .entries) noEntry (entries-small (tableIn w) (page-facts w p l s) l p (s .inside) (s .level)) i il
+entry-small w p l s i il = every-at (λ e. Small (e .rect)) (page (tableIn w) p .entries) noEntry (page-small w p l s) i il

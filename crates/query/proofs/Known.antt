@@ -1,10 +1,10 @@
 -- What lies beyond the window fails the page test and the leaf test; for the admitted set of overlap all else passes both.
 use Prim.Native.Nat.{ℕ, _+_, _-_, _<_, _≤_}
 use native.Mathlib.Omega.{arith}
-use mathlib.Core.Path.{_≡_, refl, sym, ap, _∙_}
+use mathlib.Core.Path.{_≡_, refl, sym, ap, ap₂, _∙_}
 use mathlib.Core.Logic.{_⊎_, inl, inr, ⊎-elim}
-use mathlib.Core.Bool.{Bool, true, false, _||_, cond}
-use mathlib.Core.List.{List}
+use mathlib.Core.Bool.{Bool, true, false, _||_, not, cond}
+use mathlib.Core.List.{List, [], _∷_, _++_}
 use lib.Dec.{T, ltb}
 use borrow.Author.Tests.{ltb-true, ltb-false}
 use Rattle.relations.specs.Steps.{joinedOf, nearBy, innerBy, wholeBy, overlapBy}
@@ -13,10 +13,12 @@ use Rattle.relations.proofs.Sides.{is-code}
 use Rattle.relations.proofs.Near.{Shut, shut-y, shut-x, apart, outside, near-shut, inner-shut, leaf-less}
 use Rattle.relations.proofs.Whole.{Overlapping, overlapping, whole-leaf, whole-page}
 use Rattle.pages.specs.declared.Rect.{Rect}
+use Rattle.pages.specs.declared.Entry.{Entry}
 use Rattle.pages.specs.Sizes.{EDGE}
+use Rattle.pages.specs.Lists.{concatMap, Every}
 use Rattle.pages.specs.Rectangles.{rectOf, valid}
 use Rattle.query.specs.Admission.{codeY, codeX}
-use Rattle.query.specs.Steps.{Small, MOST, frameOf, windowOf, Roomy, windowFor, beyond, Known, admitsBy, opensBy}
+use Rattle.query.specs.Steps.{Small, MOST, frameOf, referenceOf, windowOf, Roomy, windowFor, beyond, near, Known, admitsBy, opensBy, admittedR}
 use Rattle.query.proofs.Tests.{Proper, proper}
 use Rattle.query.proofs.Edges.{valid-small}
 
@@ -79,8 +81,8 @@ made-small q w v near inner e = rw e (window-small q v near inner)
 roomy : (q w : Rect) → Small w → Roomy (frameOf q w)
 roomy q w s = record { x-start = omega arith; y-start = omega arith; x-end = omega arith; y-end = omega arith; x-most = omega (arith, s .x-start) }
 
-unpacked : (q w : Rect) → Small w → windowOf (frameOf q w) ≡ w
-unpacked q w s =
+framed-window : (q w : Rect) → Small w → windowOf (frameOf q w) ≡ w
+framed-window q w s =
     let x1 : MOST + w .x1 - MOST ≡ w .x1 = omega arith in
     let y1 : MOST + w .y1 - MOST ≡ w .y1 = omega arith in
     let x2 : MOST - (MOST - w .x2) ≡ w .x2 = omega (arith, s .x-end) in
@@ -152,7 +154,7 @@ module _ (rows : List ℕ) (q : Rect) (v : T (valid q)) where
 
   -- the frame has the window
   back : windowOf (frameOf q window) ≡ window
-  back = unpacked q window (window-small q v _ _)
+  back = framed-window q window (window-small q v _ _)
 
   room : Roomy (frameOf q window)
   room = roomy q window (window-small q v _ _)
@@ -178,3 +180,16 @@ module _ (rows : List ℕ) (q : Rect) (v : T (valid q)) where
           fails = λ p m e. leaf-shut p m (sym (ap (λ x. beyond x p) back) ∙ e);
           passes = λ o p e. taken-leaf o p (sym (ap (λ x. beyond x p) back) ∙ e);
         })
+
+-- where the window decides, what is near passes the test and nothing else does
+module _ (f : List ℕ) (whole : Bool) (test : Rect → Rect → Bool) (known : Known f whole test) (w : whole ≡ true) where
+  near-is : (p : Rect) → Small p → near (windowOf f) p ≡ test (referenceOf f) p
+  near-is p s = go (beyond (windowOf f) p) refl
+    where
+      go : (b : Bool) → beyond (windowOf f) p ≡ b → near (windowOf f) p ≡ test (referenceOf f) p
+      go true e = ap not e ∙ sym (known .fails p s e)
+      go false e = ap not e ∙ sym (known .passes w p e)
+
+  pub near-each : (es : List Entry) → Every (λ e. Small (e .rect)) es → concatMap (admittedR (near (windowOf f))) es ≡ concatMap (admittedR (test (referenceOf f))) es
+  near-each [] h = refl
+  near-each (e ∷ es) h = ap₂ _++_ (ap (λ b. cond b (e .r ∷ []) []) (near-is (e .rect) (h .0))) (near-each es (h .1))

@@ -1,6 +1,6 @@
 -- What the inner functions are held to: the tests on rows, the piece numbers that a walk meets, and marks as bits.
 use Prim.Native.Nat.{ℕ, zero, suc, _+_, _-_, _*_, _/_, _%_, _^_, _≤_, _<_}
-use mathlib.Core.Bool.{Bool, true, false, cond, _||_}
+use mathlib.Core.Bool.{Bool, true, false, cond, not, _||_}
 use mathlib.Core.Path.{_≡_}
 use mathlib.Core.List.{List, [], _∷_, _++_}
 use lib.ListN.{length, getD, drop, set}
@@ -35,12 +35,12 @@ pub record Small (r : Rect) : Type 0 where
   pub x-end : r .x2 ≤ EDGE
   pub y-end : r .y2 ≤ EDGE
 
--- a packed word has an x in its lower half and a y in its upper half
+-- a paired word has an x in its lower half and a y in its upper half
 abbrev pub HALF : ℕ
 HALF = 4_294_967_296
 
-abbrev pub packedOf : ℕ → ℕ → ℕ
-packedOf x y = y * HALF + x
+abbrev pub pairedOf : ℕ → ℕ → ℕ
+pairedOf x y = y * HALF + x
 
 -- the highest bit of one of the halves is set
 abbrev pub TOP : ℕ
@@ -79,6 +79,9 @@ windowFor q near inner = cond inner (rectOf (q .x1 + 1) (q .y1 + 1) (q .x2 - 1) 
 -- p lies beyond q on one of its sides: it starts past an end of q, or ends before a start of it
 unfoldable pub beyond : Rect → Rect → Bool
 beyond q p = (ltb (q .y2) (p .y1) || ltb (q .x2) (p .x1)) || (ltb (p .y2) (q .y1) || ltb (p .x2) (q .x1))
+
+abbrev pub near : Rect → Rect → Bool
+near q p = not (beyond q p)
 
 -- the frame of a valid reference: what lies beyond its window fails the test, and where `whole` holds all else passes it
 pub record Known (f : List ℕ) (whole : Bool) (test : Rect → Rect → Bool) : Type 0 where

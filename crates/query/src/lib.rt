@@ -18,7 +18,7 @@ ghost use Rattle.pages.specs.Layout.{noEntry, page, tableIn};
 ghost use Rattle.query.specs.Admission.{codeY, codeX};
 ghost use Rattle.query.specs.Opening.{openedUnder, openedPages};
 ghost use Rattle.query.specs.Calls.{refusalFrom, querySound, queryCall, OpenedWords, frontOf};
-ghost use Rattle.query.specs.Steps.{SoundPage, Small, openedListed, packedOf, over, frameOf, referenceOf, windowOf, windowFor, beyond, Roomy, Known, admitsBy, opensBy, admittedR, hitsUnder, hitsFrom, MARK_BITS, withMark, marked, Summed, markedNumbers};
+ghost use Rattle.query.specs.Steps.{SoundPage, Small, openedListed, pairedOf, over, frameOf, referenceOf, windowOf, windowFor, beyond, near, Roomy, Known, admitsBy, opensBy, admittedR, hitsUnder, hitsFrom, MARK_BITS, withMark, marked, Summed, markedNumbers};
 use pages::Entry;
 use pages::Rect;
 use relations::CODES;
@@ -30,7 +30,7 @@ const MARK_WORDS: usize = 16;
 // The words of marks and, behind them, one whose bit w says that word w has a mark.
 const MARKS: usize = MARK_WORDS + 1;
 
-// A packed word has an x in its lower half and a y in its upper half; no edge reaches a half's highest bit.
+// A paired word has an x in its lower half and a y in its upper half; no edge reaches a half's highest bit.
 const HALF: u64 = 4_294_967_296;
 
 const TOP: u64 = 2_147_483_648;
@@ -151,8 +151,8 @@ fn framed(q: Rect, below: &[u16; CODES], masks: &[u16; CODES]) -> [u32; FRAME_WO
     ]
 }
 
-fn packed(x: u32, y: u32) -> u64
-    ensures { λ r. ⌜ r ≡ packedOf x y ⌝ }
+fn paired(x: u32, y: u32) -> u64
+    ensures { λ r. ⌜ r ≡ pairedOf x y ⌝ }
 {
     y as u64 * HALF + x as u64
 }
@@ -164,14 +164,14 @@ fn is_over(word: u64) -> bool
     (word >= TOP * HALF) | (word % HALF >= TOP)
 }
 
-// Whether a rectangle lies beyond the window on one of its sides. A sum and a difference of packed words test both axes at
+// Whether a rectangle lies beyond the window on one of its sides. A sum and a difference of paired words test both axes at
 // once: of four branches the processor could foretell none.
 fn is_beyond(frame: &[u32; FRAME_WORDS], rect: Rect) -> bool
     requires { ⌜ Roomy (now frame) × Small rect ⌝ }
     ensures { λ r. ⌜ r ≡ beyond (windowOf (now (frame .entry))) rect ⌝ }
 {
-    let starts = packed(rect.x1, rect.y1) + packed(frame[START_X], frame[START_Y]);
-    let ends = packed(frame[END_X], frame[END_Y]) - packed(rect.x2, rect.y2);
+    let starts = paired(rect.x1, rect.y1) + paired(frame[START_X], frame[START_Y]);
+    let ends = paired(frame[END_X], frame[END_Y]) - paired(rect.x2, rect.y2);
     is_over(starts) | is_over(ends)
 }
 
@@ -189,14 +189,11 @@ fn code_x(frame: &[u32; FRAME_WORDS], rect: Rect) -> usize
     relations::axis_code(rect.x1, rect.x2, frame[X1], frame[X2])
 }
 
-// Whether a piece's rectangle, which is not beyond the window, is admitted.
-fn admits(rows: &[u16; CODES], frame: &[u32; FRAME_WORDS], whole: bool, rect: Rect) -> bool
-    requires { ⌜ Known (now frame) whole (admitsBy (now rows)) × (beyond (windowOf (now frame)) rect ≡ false) ⌝ }
+// Whether a piece's rectangle is admitted.
+fn admits(rows: &[u16; CODES], frame: &[u32; FRAME_WORDS], rect: Rect) -> bool
+    requires { ⌜ T (valid (referenceOf (now frame))) ⌝ }
     ensures { λ r. ⌜ r ≡ admitsBy (now (rows .entry)) (referenceOf (now (frame .entry))) rect ⌝ }
 {
-    if whole {
-        return true;
-    }
     let i = code_y(frame, rect);
     let j = code_x(frame, rect);
     relations::leaf_test(rows, i, j)
@@ -235,6 +232,19 @@ fn mark(marks: &mut [u64; MARKS], r: u32, hit: bool)
     marks[MARK_WORDS] |= bit << at;
 }
 
+// Marks the pieces of a leaf that do not lie beyond the window.
+fn mark_near(table: &[u32], frame: &[u32; FRAME_WORDS], p: usize, marks: &mut [u64; MARKS])
+    requires { ⌜ SoundPage (now table) p 0 × Roomy (now frame) ⌝ }
+    ensures { λ _. ⌜ now (marks .exit) ≡ marked (now (marks .entry)) (concatMap (admittedR (near (windowOf (now (frame .entry))))) (page (tableIn (now (table .entry))) p .entries)) ⌝ }
+{
+    let n = size_of(table, p, 0);
+    for i in 0..n {
+        let e = entry_at(table, p, 0, i);
+        let hit = !is_beyond(frame, e.rect);
+        mark(marks, e.r, hit);
+    }
+}
+
 // Marks the admitted pieces of a leaf.
 fn mark_leaf(
     table: &[u32],
@@ -247,11 +257,15 @@ fn mark_leaf(
     requires { ⌜ SoundPage (now table) p 0 × Known (now frame) whole (admitsBy (now rows)) ⌝ }
     ensures { λ _. ⌜ now (marks .exit) ≡ marked (now (marks .entry)) (concatMap (admittedR (admitsBy (now (rows .entry)) (referenceOf (now (frame .entry))))) (page (tableIn (now (table .entry))) p .entries)) ⌝ }
 {
+    if whole {
+        mark_near(table, frame, p, marks);
+        return;
+    }
     let n = size_of(table, p, 0);
     for i in 0..n {
         let e = entry_at(table, p, 0, i);
         if !is_beyond(frame, e.rect) {
-            let hit = admits(rows, frame, whole, e.rect);
+            let hit = admits(rows, frame, e.rect);
             mark(marks, e.r, hit);
         }
     }
