@@ -80,6 +80,7 @@ windowFor q near inner = cond inner (rectOf (q .x1 + 1) (q .y1 + 1) (q .x2 - 1) 
 unfoldable pub beyond : Rect → Rect → Bool
 beyond q p = (ltb (q .y2) (p .y1) || ltb (q .x2) (p .x1)) || (ltb (p .y2) (q .y1) || ltb (p .x2) (q .x1))
 
+-- p does not lie beyond q
 abbrev pub near : Rect → Rect → Bool
 near q p = not (beyond q p)
 

@@ -30,9 +30,10 @@ const MARK_WORDS: usize = 16;
 // The words of marks and, behind them, one whose bit w says that word w has a mark.
 const MARKS: usize = MARK_WORDS + 1;
 
-// A paired word has an x in its lower half and a y in its upper half; no edge reaches a half's highest bit.
+// A paired word has an x in its lower half and a y in its upper half.
 const HALF: u64 = 4_294_967_296;
 
+// The highest bit of a half, which no edge reaches, and the most that leaves it alone.
 const TOP: u64 = 2_147_483_648;
 
 const MOST: u32 = 2_147_483_647;
