@@ -2,17 +2,20 @@
 use pages::Rect;
 ghost use mathlib.Core.Path.{_≡_};
 ghost use Rattle.history.specs.Replay.{replayCall};
+ghost use Rattle.finder_bench.specs.Asked.{askedAll};
 
 const RECT_WORDS: usize = 4;
 
-// Answers a query for each reference, and gives the number of all hits.
+// Answers a query for each reference, each as a call of its own would, and gives the number of all hits.
 #[no_mangle]
 pub extern "C" fn bench_queries(
     table: &[u32],
     references: &[u32],
     clauses: &[u64],
     answer: &mut [u16],
-) -> u64 {
+) -> u64
+    ensures { λ r. ⌜ (r, now (answer .exit)) ≡ askedAll (now (table .entry)) (now (references .entry)) (now (clauses .entry)) (now (answer .entry)) ⌝ }
+{
     let checked = soundness::check(table);
     if checked.refusal != pages::ACCEPTED {
         return 0;

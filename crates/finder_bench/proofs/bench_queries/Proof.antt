@@ -1,13 +1,17 @@
--- The check's answer makes the table sound, and it stays as it is.
+-- The check's answer makes the table sound, and it stays as it is; the hits and the answer slice before query i are those of the queries asked.
 use borrow.Author.Needs.{needs}
 use Prim.Native.Nat.{ℕ, _*_, _-_, _≤_}
+use native.Mathlib.Omega.{arith}
 use native.Mathlib.Nat.{mul-div-le}
 use mathlib.Core.Path.{_≡_, refl, sym, ap, _∙_}
+use mathlib.Core.List.{List}
 use lib.ListN.{length}
 use lib.Dec.{T}
 use Rattle.pages.specs.Sizes.{TABLE_WORDS}
 use Rattle.pages.specs.Sound.{sound}
 use Rattle.soundness.proofs.Answers.{accepted}
+use Rattle.finder_bench.specs.Asked.{asked}
+use Rattle.finder_bench.proofs.Asked.{all-refused, one-more, all-asked}
 use Rattle.finder_bench.proofs.bench_queries.Statement.{statement}
 use Rattle.finder_bench.proofs.bench_queries.Tie as tie
 
@@ -17,6 +21,7 @@ RECT_WORDS = 4
 abbrev Inv-loop : tie.InvT-loop
 Inv-loop table references clauses answer₀ hits₀ i₀ i-end answer hits i =
     (i ≤ i-end) × (RECT_WORDS * i-end ≤ length references) × (length answer ≡ length answer₀) × (TABLE_WORDS ≤ length table) × T (sound table)
+    × (_≡_ {A = ℕ × List ℕ} (hits, answer) (asked table references clauses answer₀ i))
 
 abbrev μ-loop : tie.MeasureT-loop
 μ-loop table references clauses answer₀ hits₀ i₀ i-end answer hits i = i-end - i
@@ -25,12 +30,15 @@ check-requires : tie.Need-check-requires Inv-loop μ-loop
 check-requires c κs = search needs
 
 returns : tie.Need-returns Inv-loop μ-loop
-returns c = search needs
+returns c =
+    let a = c .before .before .before .before .before .before .before .args in
+    all-refused (a .table .now) (a .references .now) (a .clauses .now) (a .answer .now) _ (c .before .before .check .ensures) (c .if1 .taken)
 
 loop-holds : tie.Need-loop-holds Inv-loop μ-loop
+unfolding asked
 loop-holds c =
     let s = accepted _ (ap (λ k. k .refusal) (sym (c .before .before .check .ensures)) ∙ c .if1 .left) in
-    (search needs, mul-div-le _ 4, refl, s .0, s .1)
+    (search needs, mul-div-le _ 4, refl, s .0, s .1, refl)
 
 mul-at : tie.Need-mul-at Inv-loop μ-loop
 mul-at c = search needs
@@ -84,13 +92,23 @@ loop-less : tie.Need-loop-less Inv-loop μ-loop
 loop-less c = search needs
 
 loop-again : tie.Need-loop-again Inv-loop μ-loop
-loop-again c = (search needs, search needs, search needs, search needs, c .before .before .before .before .before .before .before .before .before .before .before .loop .inv .4)
+loop-again c =
+    let l = c .before .before .before .before .before .before .before .before .before .before .before .loop in (
+      search needs,
+      search needs,
+      search needs,
+      search needs,
+      l .inv .4,
+      one-more _ _ _ _ (l .inv .3) (l .inv .4) (l .i) _ _ _ _ _ (l .inv .5) (c .before .before .before .before .query-sound .ensures) (c .wrapping-add-u64 .ensures),
+    )
 
 same-length : tie.Need-same-length Inv-loop μ-loop
 same-length c = search needs
 
 returns-2 : tie.Need-returns-2 Inv-loop μ-loop
-returns-2 c = search needs
+returns-2 c =
+    let l = c .before .loop in
+    all-asked _ _ _ _ (l .i) _ (omega arith) (l .inv .5)
 
 pub bench-queries-spec : {M : Type 1} → statement M
 bench-queries-spec =

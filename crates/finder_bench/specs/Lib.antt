@@ -1,0 +1,2 @@
+-- What the exports for the benchmarks answer.
+pub mod Asked
