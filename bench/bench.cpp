@@ -1,6 +1,5 @@
 // Times of the finder's calls beside a linear scan, the Rust model, Boost.Geometry's R-tree and libspatialindex, in one run.
 // Each figure is the best of up to ROUNDS rounds in each of LAPS turns; the finder's answers are compared with the scan's, and every side sorts by number.
-// An argument says how many different references the inner queries and Boost are asked for; fewer than QUERIES stand again and again.
 #include <algorithm>
 #include <chrono>
 #include <cmath>
@@ -49,9 +48,8 @@ static const uint32_t EDGE = FINDER_EDGE;
 static const uint32_t PIECES = FINDER_PIECES;
 // So many queries that the processor cannot learn how their branches go, and that the one test of the table does not count.
 static const int QUERIES = 16384;
-// The slow sides are asked for the first few alone.
+// The slow sides are asked for the first few alone. In a second table these stand again and again, so that the branches are learnt.
 static const int FEW = 64;
-static int different = QUERIES;
 
 static volatile uint64_t sink;
 static std::vector<uint32_t> table(FINDER_TABLE_WORDS);
@@ -161,10 +159,6 @@ static Rects references_of(const Rects &rects) {
     Rects refs;
     const uint32_t margin = 30000;
     for (int i = 0; i < QUERIES; i++) {
-        if (i >= different) {
-            refs.push_back(refs[i - different]);
-            continue;
-        }
         Rect q = rects[random_below(PIECES)];
         if (i % 2)
             q = {q.x1 > margin ? q.x1 - margin : 0, q.y1 > margin ? q.y1 - margin : 0, std::min(q.x2 + margin, EDGE), std::min(q.y2 + margin, EDGE)};
@@ -263,7 +257,8 @@ static finder_answer ask(const Rect &q, const std::vector<uint64_t> &clauses, st
     return finder_query(table.data(), table.size(), q.x1, q.y1, q.x2, q.y2, clauses.data(), clauses.size(), answer.data(), answer.size());
 }
 
-static void query_row(const char *data, const Rects &rects, const Wish &wish, const Rects &refs, const Tree &boost, const Library &library) {
+// With `learnt` only the inner query beside Boost.
+static void query_row(const char *data, const Rects &rects, const Wish &wish, const Rects &refs, const Tree &boost, const Library &library, bool learnt) {
     auto set = finder_admitted_set(wish.clauses.data(), wish.clauses.size());
     std::vector<uint16_t> answer(PIECES);
     std::vector<uint32_t> found, words;
@@ -317,17 +312,23 @@ static void query_row(const char *data, const Rects &rects, const Wish &wish, co
     // from the clauses, as the finder's calls, and with their set given
     auto by_boost = [&] { for (auto &q : refs) ask_boost(finder_admitted_set(wish.clauses.data(), wish.clauses.size()), q); };
     auto set_given = [&] { for (auto &q : refs) ask_boost(set, q); };
+    if (learnt) {
+        auto ns = side_by_side({{inner, QUERIES}, {by_boost, QUERIES}, {set_given, QUERIES}});
+        printf("| %s | %s | %.0f | %.0f | %.0f | %.2f | %.2f |\n", data, wish.name, ns[0], ns[1], ns[2], ns[0] / ns[1], ns[0] / ns[2]);
+        return;
+    }
     auto ns = side_by_side({{full, FEW}, {inner, QUERIES}, {linear, FEW}, {model, FEW}, {by_library, FEW}, {by_boost, QUERIES}, {set_given, QUERIES}});
     printf("| %s | %s | %.1f | %.0f | %.0f | %.0f | %.0f | %.0f | %.0f | %.0f | %.2f | %.2f |\n", data, wish.name, (double)hits / QUERIES, ns[0], ns[1], ns[2],
            ns[3], ns[4], ns[5], ns[6], ns[1] / ns[5], ns[1] / ns[6]);
 }
 
-static void queries(const char *data, const Rects &rects) {
+static void queries(const char *data, const Rects &rects, bool learnt) {
     build(rects);
     Tree boost = boost_tree(rects);
     Library library(rects);
     auto refs = references_of(rects);
-    for (auto &wish : wishes()) query_row(data, rects, wish, refs, boost, library);
+    for (int i = FEW; learnt && i < QUERIES; i++) refs[i] = refs[i - FEW];
+    for (auto &wish : wishes()) query_row(data, rects, wish, refs, boost, library, learnt);
 }
 
 // ---- placing ----
@@ -405,8 +406,7 @@ static void shares() {
     }
 }
 
-int main(int argc, char **argv) {
-    if (argc > 1) different = std::max(1, std::min(atoi(argv[1]), QUERIES));
+int main() {
     struct Data {
         const char *name;
         Rects rects;
@@ -423,7 +423,9 @@ int main(int argc, char **argv) {
     for (auto &d : data) passes(d.name, d.rects, pass);
     printf("\nQueries on 1,024 pieces, ns each:\n\n| data | wish | hits | full call | inner | linear scan | Rust model | libspatialindex | Boost | Boost, set given | inner / Boost | "
            "inner / Boost, set given |\n|---|---|---|---|---|---|---|---|---|---|---|---|\n");
-    for (auto &d : data) queries(d.name, d.rects);
+    for (auto &d : data) queries(d.name, d.rects, false);
+    printf("\nThe same %d references again and again, ns each:\n\n| data | wish | inner | Boost | Boost, set given | inner / Boost | inner / Boost, set given |\n|---|---|---|---|---|---|---|\n", FEW);
+    for (auto &d : data) queries(d.name, d.rects, true);
     printf("\nPlacing 1,024 pieces, ns each:\n\n| data | full call | in passes | inner | Boost | libspatialindex | inner / Boost |\n|---|---|---|---|---|---|---|\n");
     for (auto &d : data) placing(d.name, d.rects, pass);
     printf("\nPages opened in percent of all pages, beside the paper's:\n\n| relation | small | paper | medium | paper | large | paper |\n|---|---|---|---|---|---|---|\n");
