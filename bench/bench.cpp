@@ -351,14 +351,16 @@ static void placing(const char *data, const Rects &rects, double pass) {
 // ---- one pass, check, empty ----
 
 static double one_pass() {
-    return best_of([&] {
-        for (int k = 0; k < 100; k++) {
+    const int passes = 2000;
+    auto sum_up = [&] {
+        for (int k = 0; k < passes; k++) {
             const uint32_t *words = table.data();
             uint32_t sum = 0;
             for (size_t i = 0; i < FINDER_TABLE_WORDS; i++) sum += words[i];
             sink += sum;
         }
-    }, 100);
+    };
+    return side_by_side({{sum_up, passes}})[0];
 }
 
 static void passes(const char *data, const Rects &rects, double pass) {
