@@ -1,4 +1,4 @@
-// The C interface: every export of the project, each with the equation of the call behind it. include/finder.h declares them.
+// The C interface: exactly what include/finder.h declares, each export with the equation of the call behind it.
 use pages::Rect;
 use query::Answer;
 use query::Opened;
