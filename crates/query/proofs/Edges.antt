@@ -4,24 +4,18 @@ use native.Mathlib.Omega.{arith}
 use mathlib.Core.Path.{_≡_}
 use mathlib.Core.List.{List, [], _∷_}
 use lib.ListN.{length, getD}
-use lib.Dec.{T, leb, ltb, leb→le}
+use lib.Dec.{T}
 use Rattle.pages.specs.declared.Rect.{Rect}
 use Rattle.pages.specs.declared.Entry.{Entry}
-use Rattle.pages.specs.Sizes.{EDGE}
 use Rattle.pages.specs.Lists.{Every}
 use Rattle.pages.specs.Rectangles.{valid, widen, widenAll, bounds}
 use Rattle.pages.specs.Layout.{Table, noEntry, page, tableIn}
-use Rattle.pages.proofs.Lists.{holds, every-at, every-map}
+use Rattle.pages.proofs.Lists.{every-at, every-map}
 use Rattle.pages.proofs.Facts.{Facts}
 use Rattle.pages.proofs.Entries.{Fits, leaf-pieces, fits-above}
 use Rattle.query.specs.Steps.{SoundPage, Small}
 use Rattle.query.proofs.Reading.{page-facts}
-
-pub valid-small : (r : Rect) → T (valid r) → Small r
-unfolding valid
-valid-small r v =
-    let (_, (_, (a, (b, (c, (d, _)))))) = holds (ltb (r .x1) (r .x2) ∷ ltb (r .y1) (r .y2) ∷ leb (r .x1) EDGE ∷ leb (r .y1) EDGE ∷ leb (r .x2) EDGE ∷ leb (r .y2) EDGE ∷ []) v in
-    record { x-start = leb→le _ _ a; y-start = leb→le _ _ b; x-end = leb→le _ _ c; y-end = leb→le _ _ d }
+use Rattle.query.proofs.Tests.{small}
 
 widen-small : (a b : Rect) → Small a → Small b → Small (widen a b)
 unfolding widen
@@ -44,7 +38,7 @@ bounds-small (e ∷ es) h = widen-all (e .rect) es (h .0) (h .1)
 
 entries-small : (t : Table) → Facts t → (l q : ℕ) → q < length (t .pages) → page t q .level ≡ l → Every (λ e. Small (e .rect)) (page t q .entries)
 entries-small t F zero q ql lv =
-    every-map (λ e. T (valid (e .rect))) (λ e. Small (e .rect)) (λ e. valid-small (e .rect)) (page t q .entries) (rw (leaf-pieces (page t q) lv) at (F .valids q ql))
+    every-map (λ e. T (valid (e .rect))) (λ e. Small (e .rect)) (λ e. small (e .rect)) (page t q .entries) (rw (leaf-pieces (page t q) lv) at (F .valids q ql))
 entries-small t F (suc l) q ql lv =
     every-map (Fits (t .pages) (suc l)) (λ e. Small (e .rect)) (λ e f. rw (f .exact) (bounds-small (page t (e .r) .entries) (entries-small t F l (e .r) (f .inside) (omega (arith, f .lower))))) (page t q .entries)
     (fits-above t F l q ql lv)

@@ -19,8 +19,7 @@ use Rattle.pages.specs.Lists.{concatMap, Every}
 use Rattle.pages.specs.Rectangles.{rectOf, valid}
 use Rattle.query.specs.Admission.{codeY, codeX}
 use Rattle.query.specs.Steps.{Small, MOST, frameOf, referenceOf, windowOf, Roomy, windowFor, beyond, near, Known, admitsBy, opensBy, admittedR}
-use Rattle.query.proofs.Tests.{Proper, proper}
-use Rattle.query.proofs.Edges.{valid-small}
+use Rattle.query.proofs.Tests.{Proper, proper, small}
 
 either : (a b : Bool) → (a || b) ≡ true → (a ≡ true) ⊎ (b ≡ true)
 either true b e = inl refl
@@ -68,7 +67,7 @@ drawn-out (inr h) = inr (omega arith)
 
 window-small : (q : Rect) → T (valid q) → (near inner : Bool) → Small (windowFor q near inner)
 unfolding windowFor
-window-small q v near inner = go near inner (valid-small q v) (proper q v)
+window-small q v near inner = go near inner (small q v) (proper q v)
   where
     go : (a b : Bool) → Small q → Proper q → Small (cond b (drawn q) (cond a q (rectOf 0 0 EDGE EDGE)))
     go a true s o = record { x-start = omega (arith, s .x-end, o .on-x); y-start = omega (arith, s .y-end, o .on-y); x-end = omega (arith, s .x-end); y-end = omega (arith, s .y-end) }

@@ -36,13 +36,10 @@ hit-bit false m w j l = ap (λ x. set m w (bitOr (getD m w 0) x)) (omega arith) 
 pub hit-mark : (hit : Bool) (m m′ : List ℕ) (r : ℕ) → r < PIECES → m′ ≡ set m (r / MARK_BITS) (bitOr (getD m (r / MARK_BITS) 0) (boolByte hit * 2 ^ (r % MARK_BITS) % 2 ^ 64))
     → set m′ MARK_WORDS (bitOr (getD m′ MARK_WORDS 0) (boolByte hit * 2 ^ (r / MARK_BITS) % 2 ^ 64)) ≡ cond hit (withMark m r) m
 unfolding withMark
-hit-mark hit m m′ r l e =
-    hit-bit hit m′ MARK_WORDS (r / MARK_BITS) (omega arith) ∙ ap (λ x. cond hit (withBit x MARK_WORDS (r / MARK_BITS)) x) (e ∙ hit-bit hit m (r / MARK_BITS) (r % MARK_BITS) (omega arith)) ∙ go hit
-  where
-    go : (h : Bool) → cond h (withBit (cond h (withBit m (r / MARK_BITS) (r % MARK_BITS)) m) MARK_WORDS (r / MARK_BITS)) (cond h (withBit m (r / MARK_BITS) (r % MARK_BITS)) m)
-        ≡ cond h (withBit (withBit m (r / MARK_BITS) (r % MARK_BITS)) MARK_WORDS (r / MARK_BITS)) m
-    go true = refl
-    go false = refl
+hit-mark true m m′ r l e =
+    hit-bit true m′ MARK_WORDS (r / MARK_BITS) (omega arith) ∙ ap (λ x. withBit x MARK_WORDS (r / MARK_BITS)) (e ∙ hit-bit true m (r / MARK_BITS) (r % MARK_BITS) (omega arith))
+hit-mark false m m′ r l e =
+    hit-bit false m′ MARK_WORDS (r / MARK_BITS) (omega arith) ∙ e ∙ hit-bit false m (r / MARK_BITS) (r % MARK_BITS) (omega arith)
 
 pub mark-at : (m : List ℕ) (r c : ℕ) → MARK_WORDS < length m → c < PIECES → isMarked (withMark m r) c ≡ (isMarked m c || eqb r c)
 unfolding isMarked withMark

@@ -5,7 +5,7 @@ use mathlib.Core.Path.{_≡_, refl}
 use mathlib.Core.Logic.{_↔_}
 use mathlib.Core.Bool.{true}
 use mathlib.Core.List.{List, [], _∷_}
-use lib.Dec.{T, leb, ltb, ltb→lt}
+use lib.Dec.{T, leb, ltb, leb→le, ltb→lt}
 use Rattle.relations.specs.Query.{refusalOf, rowSets, answer, admittedOf}
 use Rattle.relations.specs.Steps.{joinedOf}
 use Rattle.relations.proofs.Sides.{is-code}
@@ -17,7 +17,7 @@ use Rattle.pages.proofs.Lists.{true-T, T-true, holds}
 use Rattle.pages.proofs.Walk.{Within}
 use Rattle.query.specs.Admission.{codeY, codeX, admitsRect, opens}
 use Rattle.query.specs.Demand2.{QuarterIn}
-use Rattle.query.specs.Steps.{admitsBy, opensBy}
+use Rattle.query.specs.Steps.{Small, admitsBy, opensBy}
 
 pub admits-same : (clauses : List ℕ) (q : Rect) → admitsBy (rowSets clauses) q ≡ admitsRect clauses q
 unfolding admitsBy admitsRect
@@ -32,11 +32,17 @@ pub record Proper (r : Rect) : Type 0 where
   pub on-x : r .x1 < r .x2
   pub on-y : r .y1 < r .y2
 
-pub proper : (r : Rect) → T (valid r) → Proper r
+valid-parts : (r : Rect) → T (valid r) → Proper r × Small r
 unfolding valid
-proper r v =
-    let (a, (b, _)) = holds (ltb (r .x1) (r .x2) ∷ ltb (r .y1) (r .y2) ∷ leb (r .x1) EDGE ∷ leb (r .y1) EDGE ∷ leb (r .x2) EDGE ∷ leb (r .y2) EDGE ∷ []) v in
-    record { on-x = ltb→lt _ _ a; on-y = ltb→lt _ _ b }
+valid-parts r v =
+    let (p, (q, (a, (b, (c, (d, _)))))) = holds (ltb (r .x1) (r .x2) ∷ ltb (r .y1) (r .y2) ∷ leb (r .x1) EDGE ∷ leb (r .y1) EDGE ∷ leb (r .x2) EDGE ∷ leb (r .y2) EDGE ∷ []) v in
+    (record { on-x = ltb→lt _ _ p; on-y = ltb→lt _ _ q }, record { x-start = leb→le _ _ a; y-start = leb→le _ _ b; x-end = leb→le _ _ c; y-end = leb→le _ _ d })
+
+pub proper : (r : Rect) → T (valid r) → Proper r
+proper r v = valid-parts r v .0
+
+pub small : (r : Rect) → T (valid r) → Small r
+small r v = valid-parts r v .1
 
 pub around : (r s : Rect) → Proper r → Within r s → Proper s
 around r s p w = omega arith

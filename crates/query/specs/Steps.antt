@@ -42,10 +42,11 @@ HALF = 4_294_967_296
 abbrev pub pairedOf : ℕ → ℕ → ℕ
 pairedOf x y = y * HALF + x
 
--- the highest bit of one of the halves is set
+-- the highest bit of a half
 abbrev pub TOP : ℕ
 TOP = 2_147_483_648
 
+-- it is set in one of the halves
 unfoldable pub over : ℕ → Bool
 over a = leb (TOP * HALF) a || leb TOP (a % HALF)
 
@@ -63,7 +64,7 @@ referenceOf f = rectOf (getD f 0 0) (getD f 1 0) (getD f 2 0) (getD f 3 0)
 abbrev pub windowOf : List ℕ → Rect
 windowOf f = rectOf (getD f 6 0 - MOST) (getD f 7 0 - MOST) (MOST - getD f 4 0) (MOST - getD f 5 0)
 
--- the words of a window
+-- the words of a window leave room in each half
 pub record Roomy (f : List ℕ) : Type 0 where
   pub x-start : getD f 4 0 ≤ MOST
   pub y-start : getD f 5 0 ≤ MOST

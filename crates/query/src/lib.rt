@@ -166,7 +166,7 @@ fn is_over(word: u64) -> bool
 }
 
 // Whether a rectangle lies beyond the window on one of its sides. A sum and a difference of paired words test both axes at
-// once: of four branches the processor could foretell none.
+// once: four comparisons become four branches, which the processor can hardly foretell.
 fn is_beyond(frame: &[u32; FRAME_WORDS], rect: Rect) -> bool
     requires { ⌜ Roomy (now frame) × Small rect ⌝ }
     ensures { λ r. ⌜ r ≡ beyond (windowOf (now (frame .entry))) rect ⌝ }

@@ -10,13 +10,10 @@ use lib.Dec.{T}
 use Rattle.pages.specs.Sizes.{TABLE_WORDS}
 use Rattle.pages.specs.Sound.{sound}
 use Rattle.soundness.proofs.Answers.{accepted}
-use Rattle.finder_bench.specs.Asked.{asked}
+use Rattle.finder_bench.specs.Asked.{RECT_WORDS, asked}
 use Rattle.finder_bench.proofs.Asked.{all-refused, one-more, all-asked}
 use Rattle.finder_bench.proofs.bench_queries.Statement.{statement}
 use Rattle.finder_bench.proofs.bench_queries.Tie as tie
-
-abbrev RECT_WORDS : ℕ
-RECT_WORDS = 4
 
 abbrev Inv-loop : tie.InvT-loop
 Inv-loop table references clauses answer₀ hits₀ i₀ i-end answer hits i =
