@@ -1,7 +1,7 @@
 -- The 341 pages suffice, and so does level 4.
-use Prim.Native.Nat.{ℕ, zero, suc, _+_, _*_, _≤_, _<_}
+use Prim.Native.Nat.{ℕ, zero, suc, _+_, _-_, _*_, _≤_, _<_}
 use native.Mathlib.Omega.{arith}
-use native.Mathlib.Decide.{ℕ-discrete}
+use native.Mathlib.Decide.{ℕ-discrete, decLt}
 use mathlib.Core.Path.{_≡_, refl, sym, ap, _∙_}
 use mathlib.Core.Logic.{_≢_}
 use mathlib.Core.Bool.{Bool, true, false, cond}
@@ -19,13 +19,6 @@ use Rattle.pages.proofs.Below.{below-same, below-le, below-add, below-c
 use Rattle.pages.proofs.Facts.{Limited, Facts, relimit}
 use Rattle.pages.proofs.Entries.{is-not, above-children}
 
--- what soundness says, without the limits on k and the levels
-abbrev pub Shape : Table → Type 0
-Shape t = Limited t (length (t .pages)) 5
-
-pub facts-shape : (t : Table) → Facts t → Shape t
-facts-shape t F = relimit t _ _ (length (t .pages)) 5 (omega arith) (λ p l. omega (arith, F .levels p l)) F
-
 -- entries counted by their r, where all are below n
 numbers-sum : (n : ℕ) (es : List Entry) → Every (λ e. e .r < n) es → sumBelow n (λ c. sum (is c) es) ≡ length es
 numbers-sum n es h =
@@ -40,10 +33,10 @@ stored-sum t n g =
     (λ p l. numbers-sum n (pieceEntries (page t p)) (g p l)))
 
 -- the entries of the pages at a level
-abbrev pub heldAt : ℕ → Page → ℕ
+abbrev heldAt : ℕ → Page → ℕ
 heldAt i p = cond (eqb (p .level) i) (length (p .entries)) 0
 
-abbrev pub held : Table → ℕ → ℕ
+abbrev held : Table → ℕ → ℕ
 held t i = sum (heldAt i) (t .pages)
 
 -- the pages at a level, without the root
@@ -56,7 +49,8 @@ others t i = sumBelow (length (t .pages)) (other t i)
 sum-children : (p : Page) (q i : ℕ) → p .level ≡ suc i → sum (is q) (childEntries p) ≡ sum (is q) (p .entries)
 sum-children p q i e = ap (sum (is q)) (above-children p i e)
 
-module _ (t : Table) (s : Shape t) where
+-- whatever the limits m on the pages and H on the levels
+module _ (t : Table) {m H : ℕ} (s : Limited t m H) where
   stray : (p q : ℕ) → p < length (t .pages) → page t p .level ≢ suc (page t q .level) → sum (is q) (childEntries (page t p)) ≡ 0
   stray p q l n = sum-nothing (is q) (childEntries (page t p))
       (every-map (λ e. page t p .level ≡ suc (page t (e .r) .level)) (λ e. is q e ≡ 0)
@@ -104,7 +98,7 @@ module _ (t : Table) (s : Shape t) where
       go (no a) = rw (ne-eqb _ _ a) (omega (arith, below-const (length (t .pages)) 0))
 
   -- the entries of a level are the pages of the level below, without the root
-  pub others-held : (i : ℕ) → others t i ≡ held t (suc i)
+  others-held : (i : ℕ) → others t i ≡ held t (suc i)
   others-held i =
       below-same (length (t .pages)) (other t i) (λ q. sum (λ p. cond (eqb (p .level) (suc i)) (sum (is q) (p .entries)) 0) (t .pages)) (λ q l. sym (named-from i q l))
       ∙ (sum-below (λ q p. cond (eqb (p .level) (suc i)) (sum (is q) (p .entries)) 0) (length (t .pages)) (t .pages)
@@ -120,7 +114,7 @@ module _ (t : Table) (s : Shape t) where
   low false true c n h = omega arith
   low false false c n h = omega arith
 
-  pub others-least : (i : ℕ) → 4 * others t i + least i (t .root) ≤ held t i
+  others-least : (i : ℕ) → 4 * others t i + least i (t .root) ≤ held t i
   unfolding fewest
   others-least i =
       let k : ℕ = length (t .pages) in
@@ -138,7 +132,7 @@ module _ (t : Table) (s : Shape t) where
   high false true n h = omega arith
   high false false n h = omega arith
 
-  pub others-most : (i : ℕ) → held t i ≤ 8 * others t i + cond (eqb (page t (t .root) .level) i) 8 0
+  others-most : (i : ℕ) → held t i ≤ 8 * others t i + cond (eqb (page t (t .root) .level) i) 8 0
   others-most i =
       let k : ℕ = length (t .pages) in
       let g : ℕ → ℕ = λ q. cond (eqb (page t q .level) i) 8 0 in
@@ -150,25 +144,35 @@ module _ (t : Table) (s : Shape t) where
       let e = sum-places (heldAt i) (t .pages) noPage in
       omega (arith, a, b, c, d, e)
 
-  -- every page but the root is at one of the levels
-  pub others-all : length (t .pages) ≡ sumBelow 6 (others t) + 1
-  others-all =
-      let k : ℕ = length (t .pages) in
-      let a = below-swap 6 k (λ i q. other t i q) in
-      let b = below-add k (λ q. sumBelow 6 (λ i. other t i q)) (λ q. cond (eqb q (t .root)) 1 0) in
-      let c = below-one k (t .root) (λ q. 1) (s .top) in
-      let d = below-same k (λ q. sumBelow 6 (λ i. other t i q) + cond (eqb q (t .root)) 1 0) (λ q. 1)
-      (λ q l. each (eqb q (t .root)) (page t q .level) (below-is 6 (page t q .level) (omega (arith, s .levels q l)))) in
-      let e = below-const k 1 in
-      omega (arith, a, b, c, d, e)
-    where
-      each : (r : Bool) (l : ℕ) → sumBelow 6 (λ i. one (eqb l i)) ≡ 1 → sumBelow 6 (λ i. cond r 0 (one (eqb l i))) + cond r 1 0 ≡ 1
-      each true l h = refl
-      each false l h = omega (arith, h)
+  -- no page is above level H
+  none-over : held t (suc H) ≡ 0
+  none-over = sum-nothing (heldAt (suc H)) (t .pages)
+      (at-every (λ p. heldAt (suc H) p ≡ 0) (t .pages) noPage (λ p l. rw (ne-eqb (page t p .level) (suc H) (omega (arith, s .levels p l)))))
 
-  -- no page is at level 6
-  pub none-six : held t 6 ≡ 0
-  none-six = sum-nothing (heldAt 6) (t .pages) (at-every (λ p. heldAt 6 p ≡ 0) (t .pages) noPage (λ p l. rw (ne-eqb (page t p .level) 6 (omega (arith, s .levels p l)))))
+  -- so nothing but the root is at its level or above
+  pub none-above : (d i : ℕ) → i + d ≡ H → page t (t .root) .level ≤ i → others t i ≡ 0
+  none-above zero i e hi =
+      let z : i ≡ H = omega arith in
+      rw z (omega (arith, others-held H, none-over))
+  none-above (suc d) i e hi =
+      omega (
+        arith,
+        others-held i,
+        others-most (suc i),
+        none-above d (suc i) (omega arith) (omega arith),
+        ap {B = ℕ} (λ b. cond b 8 0) (ne-eqb (page t (t .root) .level) (suc i) (omega arith)),
+      )
+
+  pub highest : (q : ℕ) → q < length (t .pages) → page t q .level ≤ page t (t .root) .level
+  highest q ql = go (decLt (page t (t .root) .level) (page t q .level)) (ℕ-discrete q (t .root))
+    where
+      go : Dec (page t (t .root) .level < page t q .level) → Dec (q ≡ t .root) → page t q .level ≤ page t (t .root) .level
+      go (no a) b = omega arith
+      go (yes a) (yes b) = rw b (omega arith)
+      go (yes a) (no b) =
+          let i : ℕ = page t q .level in
+          let z : other t i q ≡ 1 = rw (ne-eqb q (t .root) b, eq-eqb i i refl) in
+          absurd (omega (arith, z, below-at (length (t .pages)) (other t i) q ql, none-above (H - i) i (omega (arith, s .levels q ql)) (omega arith)))
 
   length-pieces : (p : Page) → length (pieceEntries p) ≡ heldAt 0 p
   length-pieces p = go (leaf p)
@@ -178,44 +182,73 @@ module _ (t : Table) (s : Shape t) where
       go false = refl
 
   -- at most 1,024 pieces
-  pub pieces-held : pieces t ≡ held t 0
+  pieces-held : pieces t ≡ held t 0
   pieces-held = sum-same _ (heldAt 0) (t .pages) (at-every (λ p. length (pieceEntries p) ≡ heldAt 0 p) (t .pages) noPage (λ p l. length-pieces (page t p)))
 
   few-below : (n : ℕ) → ((c : ℕ) → c < n → stored t c ≤ 1) → ((p : ℕ) → p < length (t .pages) → Every (λ e. e .r < n) (pieceEntries (page t p))) → pieces t ≤ n
   few-below n f g = omega (arith, below-le n (stored t) (λ c. 1) f, below-const n 1, stored-sum t n g)
 
-  pub pieces-few : pieces t ≤ PIECES
+  pieces-few : pieces t ≤ PIECES
   pieces-few = few-below PIECES (s .distinct) (s .numbers)
 
--- the arithmetic of it: h is the level of the root, N the pages but the root and E the entries, by level
-conclude : (h k : ℕ) → h ≤ 5 → (N E : ℕ → ℕ) → ((i : ℕ) → N i ≡ E (suc i)) → ((i : ℕ) → 4 * N i + cond (eqb h i) (cond (eqb h 0) 0 2) 0 ≤ E i)
-    → ((i : ℕ) → E i ≤ 8 * N i + cond (eqb h i) 8 0) → E 0 ≤ PIECES → E 6 ≡ 0 → k ≡ sumBelow 6 N + 1 → (k ≤ PAGES) × (h ≤ 4)
-conclude zero k u N E a b m c d e = omega (arith, a 0, a 1, a 2, a 3, a 4, a 5, b 0, b 1, b 2, b 3, b 4, b 5, m 5)
-conclude (suc zero) k u N E a b m c d e = omega (arith, a 0, a 1, a 2, a 3, a 4, a 5, b 0, b 1, b 2, b 3, b 4, b 5, m 5)
-conclude (suc (suc zero)) k u N E a b m c d e = omega (arith, a 0, a 1, a 2, a 3, a 4, a 5, b 0, b 1, b 2, b 3, b 4, b 5, m 5)
-conclude (suc (suc (suc zero))) k u N E a b m c d e = omega (arith, a 0, a 1, a 2, a 3, a 4, a 5, b 0, b 1, b 2, b 3, b 4, b 5, m 5)
-conclude (suc (suc (suc (suc zero)))) k u N E a b m c d e = omega (arith, a 0, a 1, a 2, a 3, a 4, a 5, b 0, b 1, b 2, b 3, b 4, b 5, m 5)
-conclude (suc (suc (suc (suc (suc zero))))) k u N E a b m c d e = omega (arith, a 0, a 1, a 2, a 3, a 4, a 5, b 0, b 1, b 2, b 3, b 4, b 5, m 5)
-conclude (suc (suc (suc (suc (suc (suc h)))))) k u N E a b m c d e = omega arith
+  -- each entry leads to four or more, one level lower
+  four-times : (i : ℕ) → 4 * held t (suc i) ≤ held t i
+  four-times i = omega (arith, others-held i, others-least i)
+
+  -- from a root above level 0 down, each level has two entries or more
+  two-held : (d i : ℕ) → i + d ≡ page t (t .root) .level → 0 < page t (t .root) .level → 2 ≤ held t i
+  two-held zero i e h =
+      let a : least i (t .root) ≡ 2 = rw (eq-eqb (page t (t .root) .level) i (omega arith), ne-eqb (page t (t .root) .level) 0 (omega arith)) in
+      omega (arith, a, others-least i)
+  two-held (suc d) i e h = omega (arith, two-held d (suc i) (omega arith) h, four-times i)
+
+  -- two entries at level 5 are 2,048 pieces
+  root-four : page t (t .root) .level ≤ 4
+  root-four = go (decLt 4 (page t (t .root) .level))
+    where
+      go : Dec (4 < page t (t .root) .level) → page t (t .root) .level ≤ 4
+      go (no a) = omega arith
+      go (yes a) =
+          let two : 2 ≤ held t 5 = two-held (page t (t .root) .level - 5) 5 (omega arith) (omega arith) in
+          absurd (omega (arith, two, four-times 0, four-times 1, four-times 2, four-times 3, four-times 4, pieces-held, pieces-few))
+
+module _ (t : Table) {m : ℕ} (s : Limited t m 4) where
+  -- every page but the root is at one of the levels
+  others-all : length (t .pages) ≡ sumBelow 5 (others t) + 1
+  others-all =
+      let k : ℕ = length (t .pages) in
+      let a = below-swap 5 k (λ i q. other t i q) in
+      let b = below-add k (λ q. sumBelow 5 (λ i. other t i q)) (λ q. cond (eqb q (t .root)) 1 0) in
+      let c = below-one k (t .root) (λ q. 1) (s .top) in
+      let d = below-same k (λ q. sumBelow 5 (λ i. other t i q) + cond (eqb q (t .root)) 1 0) (λ q. 1)
+      (λ q l. each (eqb q (t .root)) (page t q .level) (below-is 5 (page t q .level) (omega (arith, s .levels q l)))) in
+      let e = below-const k 1 in
+      omega (arith, a, b, c, d, e)
+    where
+      each : (r : Bool) (l : ℕ) → sumBelow 5 (λ i. one (eqb l i)) ≡ 1 → sumBelow 5 (λ i. cond r 0 (one (eqb l i))) + cond r 1 0 ≡ 1
+      each true l h = refl
+      each false l h = omega (arith, h)
+
+  -- 256, 64, 16 and 4 pages at most, and the root
+  few-pages : length (t .pages) ≤ PAGES
+  few-pages =
+      let pages : length (t .pages) ≡ held t 1 + held t 2 + held t 3 + held t 4 + 1 =
+      omega (arith, others-all, none-over t s, others-held t s 0, others-held t s 1, others-held t s 2, others-held t s 3, others-held t s 4) in
+      omega (arith, pages, four-times t s 0, four-times t s 1, four-times t s 2, four-times t s 3, pieces-held t s, pieces-few t s)
 
 -- the PAGES pages, and the level 4, suffice
-pub suffice : (t : Table) → Shape t → (length (t .pages) ≤ PAGES) × (page t (t .root) .level ≤ 4)
-suffice t s = conclude (page t (t .root) .level) (length (t .pages)) (s .levels (t .root) (s .top)) (others t) (held t) (others-held t s) (others-least t s) (others-most t s)
-    (omega (arith, pieces-few t s, pieces-held t s)) (none-six t s) (others-all t s)
+pub suffice : (t : Table) {m H : ℕ} → Limited t m H → (length (t .pages) ≤ PAGES) × ((p : ℕ) → p < length (t .pages) → page t p .level ≤ 4)
+suffice t {m} {H} s =
+    let four : (p : ℕ) → p < length (t .pages) → page t p .level ≤ 4 = λ p l. omega (arith, highest t s p l, root-four t s) in
+    (few-pages t (relimit t m H m 4 (s .most) four s), four)
+
+-- what placing shows of the table that it leaves: the root is one level higher at most
+abbrev pub Shape : Table → Type 0
+Shape t = Limited t (length (t .pages)) 5
+
+pub shape-facts : (t : Table) → Shape t → Facts t
+shape-facts t s = relimit t _ _ PAGES 4 (suffice t s .0) (suffice t s .1) s
 
 -- a sound table counts at most 1,024 pieces
 pub count-few : (t : Table) → Facts t → t .count ≤ PIECES
-count-few t F = omega (arith, F .counted, pieces-few t (facts-shape t F))
-
-four : (t : Table) → Shape t → (p : ℕ) → p < length (t .pages) → page t p .level ≤ 4
-four t s p l = go (ℕ-discrete p (t .root)) (ℕ-discrete (page t p .level) 5)
-  where
-    go : Dec (p ≡ t .root) → Dec (page t p .level ≡ 5) → page t p .level ≤ 4
-    go (yes e) d = rw e (suffice t s .1)
-    go (no e) (yes d) =
-        let a : other t 5 p ≡ 1 = rw (ne-eqb p (t .root) e, eq-eqb (page t p .level) 5 d) in
-        absurd (omega (arith, a, below-at (length (t .pages)) (other t 5) p l, others-held t s 5, none-six t s))
-    go (no e) (no d) = omega (arith, s .levels p l)
-
-pub shape-facts : (t : Table) → Shape t → Facts t
-shape-facts t s = relimit t _ _ PAGES 4 (suffice t s .0) (four t s) s
+count-few t F = omega (arith, F .counted, pieces-few t F)

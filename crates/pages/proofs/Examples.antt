@@ -1,31 +1,14 @@
--- The nine pieces' table of document 01, computed: it is sound, and its words are read back as it stands.
-use Prim.Native.Nat.{ℕ, _+_, _*_}
+-- The nine pieces' table, computed.
 use mathlib.Core.Path.{_≡_, refl}
 use mathlib.Core.Bool.{true}
-use mathlib.Core.List.{[], _∷_}
-use Rattle.pages.specs.declared.Rect.{Rect}
-use Rattle.pages.specs.Rectangles.{rectOf, entryOf}
-use Rattle.pages.specs.Layout.{Table, pageOf, tableOf, encode, decode}
+use Rattle.pages.specs.Layout.{encode, decode}
 use Rattle.pages.specs.Sound.{sound}
+use Rattle.pages.specs.Examples.{ninePieces}
 
--- piece c at (10c, 0, 10c + 5, 5)
-abbrev pub piece : ℕ → Rect
-piece c = rectOf (10 * c) 0 (10 * c + 5) 5
-
--- pages 0 (pieces 0 to 3) and 1 (4 to 8), root 2, entries (0, 0, 35, 5, 0) and (40, 0, 85, 5, 1)
-unfoldable pub nine : Table
-nine =
-    tableOf 2 9
-    (pageOf 0 (entryOf (piece 0) 0 ∷ entryOf (piece 1) 1 ∷ entryOf (piece 2) 2 ∷ entryOf (piece 3) 3 ∷ [])
-    ∷ pageOf 0
-    (entryOf (piece 4) 4 ∷ entryOf (piece 5) 5 ∷ entryOf (piece 6) 6 ∷ entryOf (piece 7) 7 ∷ entryOf (piece 8) 8 ∷ [])
-    ∷ pageOf 1 (entryOf (rectOf 0 0 35 5) 0 ∷ entryOf (rectOf 40 0 85 5) 1 ∷ [])
-    ∷ [])
-
-pub sound-nine : sound (encode nine) ≡ true
-unfolding nine sound encode
+pub sound-nine : sound (encode ninePieces) ≡ true
+unfolding ninePieces sound encode
 sound-nine = refl
 
-pub round-nine : decode (encode nine) ≡ nine
-unfolding nine decode encode
+pub round-nine : decode (encode ninePieces) ≡ ninePieces
+unfolding ninePieces decode encode
 round-nine = refl

@@ -9,10 +9,11 @@ use lib.Dec.{T, leb, eqb, leb→le, ltb→lt, eqb→eq, le→leb, lt→ltb, eqb-
 use Rattle.pages.specs.declared.Rect.{Rect}
 use Rattle.pages.specs.declared.Entry.{Entry}
 use Rattle.pages.specs.Sizes.{PIECES, PAGES}
-use Rattle.pages.specs.Lists.{all, Every}
+use Rattle.pages.specs.Lists.{allOf, all, Every}
 use Rattle.pages.specs.Rectangles.{valid, sameRect, bounds}
 use Rattle.pages.specs.Layout.{Page, Table, noPage, page}
 use Rattle.pages.specs.Sound.{childEntries, pieceEntries, everyChild, everyPiece, parents, stored, pieces, soundRoot, soundLevels, soundRefs, fewest, soundSizes, soundBounds, soundPieces, soundTable}
+use Rattle.pages.specs.Claims.{soundBut}
 use Rattle.pages.proofs.Lists.{holds, all-of, all-below, below-all, every, every→all, every-at, at-every}
 
 -- what soundness says, with k as the most pages and h as the highest level
@@ -80,15 +81,16 @@ abbrev tests : Table → List Bool
 unfolding soundRoot soundLevels soundRefs soundSizes soundBounds soundPieces
 tests t = soundRoot t ++ (soundLevels t ++ (soundRefs t ++ (soundSizes t ++ (soundBounds t ++ soundPieces t))))
 
-pub facts : (t : Table) → T (soundTable t) → Facts t
-unfolding soundTable
-facts t h =
-    let (_, (a2, (a3, (b1, (b2, (c1, (c2, (d1, (d2, (e1, (f1, (f2, (f3, (f4, _)))))))))))))) = holds (tests t) h in
+-- of a table that is sound but for the limits, where it has them
+pub limited : (t : Table) (k h : ℕ) → length (t .pages) ≤ k → ((p : ℕ) → p < length (t .pages) → page t p .level ≤ h) → T (allOf (soundBut t)) → Limited t k h
+unfolding soundBut
+limited t k h most levels s =
+    let (a, (b, (c1, (c2, (d1, (d2, (e1, (f1, (f2, (f3, (f4, _))))))))))) = holds (soundBut t) s in
     record {
-      most = leb→le _ _ a2;
-      top = ltb→lt _ _ a3;
-      levels = λ p l. every-at (λ pg. pg .level ≤ 4) (t .pages) noPage (every _ (λ pg. leb (pg .level) 4) (λ pg k. leb→le _ _ k) (t .pages) b1) p l;
-      lower = each-above t _ (λ pg e. pg .level ≡ suc (page t (e .r) .level)) (λ pg e k. eqb→eq _ _ k) b2;
+      most = most;
+      top = ltb→lt _ _ a;
+      levels = levels;
+      lower = each-above t _ (λ pg e. pg .level ≡ suc (page t (e .r) .level)) (λ pg e k. eqb→eq _ _ k) b;
       once = λ q l. eqb→eq _ _ (all-below _ _ c1 q l);
       inside = each-above t _ (λ pg e. e .r < length (t .pages)) (λ pg e k. ltb→lt _ _ k) c2;
       enough = λ p l. leb→le _ _ (all-below _ _ d1 p l);
@@ -99,6 +101,13 @@ facts t h =
       distinct = λ x l. leb→le _ _ (all-below PIECES (λ c. leb (stored t c) 1) f3 x l);
       counted = eqb→eq _ _ f4;
     }
+
+pub facts : (t : Table) → T (soundTable t) → Facts t
+unfolding soundTable soundBut
+facts t h =
+    let (_, (a2, (a3, (b1, (b2, r))))) = holds (tests t) h in
+    limited t PAGES 4 (leb→le _ _ a2) (λ p l. every-at (λ pg. pg .level ≤ 4) (t .pages) noPage (every _ (λ pg. leb (pg .level) 4) (λ pg k. leb→le _ _ k) (t .pages) b1) p l)
+    (all-of (soundBut t) (a3, (b2, r)))
 
 above-each : (t : Table) (q : Page → Entry → Bool) (P : Page → Entry → Type 0) → ((p : Page) (e : Entry) → P p e → T (q p e))
     → ((p : ℕ) → p < length (t .pages) → Every (P (page t p)) (childEntries (page t p))) → T (everyChild t q)

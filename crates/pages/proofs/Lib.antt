@@ -13,3 +13,4 @@ pub mod Zeros
 pub mod Bounds
 pub mod EmptyTable
 pub mod Examples
+pub mod Claimed

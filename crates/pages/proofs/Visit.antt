@@ -1,5 +1,5 @@
 -- A walk that visits every page under the root comes to each page below k one time.
-use Prim.Native.Nat.{ℕ, zero, suc, _+_, _-_, _*_, _≤_, _<_}
+use Prim.Native.Nat.{ℕ, zero, suc, _+_, _*_, _≤_, _<_}
 use native.Mathlib.Omega.{arith}
 use native.Mathlib.Decide.{ℕ-discrete, decLt}
 use mathlib.Core.Path.{_≡_, refl, ap, _∙_}
@@ -12,11 +12,11 @@ use Rattle.pages.specs.Layout.{Table, noPage, page}
 use Rattle.pages.specs.Sound.{childEntries, is, parents}
 use Rattle.pages.specs.Under.{seen}
 use Rattle.pages.proofs.Lists.{every-map, every-both, sum-same, sum-add, sum-below}
-use Rattle.pages.proofs.Below.{below-same, below-add, below-one, sum-places, eqb-sym, cond-add, below-chosen, below-at}
+use Rattle.pages.proofs.Below.{below-same, below-add, below-one, sum-places, eqb-sym, cond-add, below-chosen}
 use Rattle.pages.proofs.Facts.{Facts}
-use Rattle.pages.proofs.Counting.{other}
+pub use Rattle.pages.proofs.Counting.{highest}
 use Rattle.pages.proofs.Entries.{leaf-children, above-children}
-use Rattle.pages.proofs.Walk.{sum-times, atLevel, children, none-above, root-level}
+use Rattle.pages.proofs.Walk.{sum-times, atLevel, children, root-level}
 
 up-to : (x l n : ℕ) → cond (eqb x (suc l)) n 0 + cond (leb x l) n 0 ≡ cond (leb x (suc l)) n 0
 up-to x l n = go (decLt x (suc l)) (ℕ-discrete x (suc l))
@@ -40,17 +40,6 @@ module _ (t : Table) (F : Facts t) where
   abbrev h : ℕ
   h = page t (t .root) .level
 
-  pub highest : (q : ℕ) → q < k → page t q .level ≤ h
-  highest q ql = go (decLt h (page t q .level)) (ℕ-discrete q (t .root))
-    where
-      go : Dec (h < page t q .level) → Dec (q ≡ t .root) → page t q .level ≤ h
-      go (no a) b = omega arith
-      go (yes a) (yes b) = rw b (omega arith)
-      go (yes a) (no b) =
-          let i : ℕ = page t q .level in
-          let z : other t i q ≡ 1 = rw (ne-eqb q (t .root) b, eq-eqb i i refl) in
-          absurd (omega (arith, z, below-at k (other t i) q ql, none-above t F (5 - i) i (omega (arith, F .levels q ql)) (omega arith)))
-
   levels-seen : (g : ℕ → ℕ) (l : ℕ) → l ≤ h → atLevel t F l (seen g (t .pages) l) ≡ sumBelow k (λ q. cond (leb (page t q .level) l) (g q) 0)
   unfolding seen
   levels-seen g zero lh = below-same k _ _ (λ q ql. zero-is (page t q .level) (g q))
@@ -72,7 +61,7 @@ module _ (t : Table) (F : Facts t) where
   seen-root g =
       root-level t F (seen g (t .pages) h)
       ∙ (levels-seen g h (omega arith)
-      ∙ below-same k _ g (λ q ql. ap (λ b. cond b (g q) 0) (le-leb (page t q .level) h (highest q ql))))
+      ∙ below-same k _ g (λ q ql. ap (λ b. cond b (g q) 0) (le-leb (page t q .level) h (highest t F q ql))))
 
   pub seen-once : (q : ℕ) → q < k → seen (λ x. one (eqb x q)) (t .pages) h (t .root) ≡ 1
   seen-once q ql = seen-root (λ x. one (eqb x q)) ∙ below-one k q (λ x. 1) ql

@@ -1,5 +1,5 @@
 -- The walk from the root meets each piece one time, and a walk that passes over pages in which nothing is wanted misses nothing.
-use Prim.Native.Nat.{ℕ, zero, suc, _+_, _*_, _≤_, _<_, _-_}
+use Prim.Native.Nat.{ℕ, zero, suc, _*_, _≤_, _<_, _-_}
 use native.Mathlib.Omega.{arith}
 use native.Mathlib.Decide.{ℕ-discrete}
 use mathlib.Core.Path.{_≡_, refl, sym, ap, _∙_}
@@ -19,7 +19,7 @@ use Rattle.pages.specs.Under.{under}
 use Rattle.pages.proofs.Lists.{at-every, every-map, every-both, sum-same, sum-cond, sum-below}
 use Rattle.pages.proofs.Below.{below-same, below-times, below-one, sum-places, is-times, below-chosen, sum-nothing, below-at}
 use Rattle.pages.proofs.Facts.{Facts}
-use Rattle.pages.proofs.Counting.{facts-shape, other, others, named-from, others-held, others-most, none-six}
+use Rattle.pages.proofs.Counting.{other, others, named-from, none-above}
 use Rattle.pages.proofs.Entries.{Fits, leaves, leaf-pieces, above-children, fits-above}
 
 -- the weight under a page, of a walk that goes to a child only where its rectangle passes a test
@@ -62,7 +62,7 @@ module _ (t : Table) (F : Facts t) where
       ∙ (sum-same (λ p. cond (eqb (p .level) (suc l)) (sum (λ e. G (e .r)) (p .entries)) 0) (λ p. sumBelow k (λ q. cond (eqb (p .level) (suc l)) (sum (is q) (p .entries)) 0 * G q)) (t .pages)
       (at-every (λ p. cond (eqb (p .level) (suc l)) (sum (λ e. G (e .r)) (p .entries)) 0 ≡ sumBelow k (λ q. cond (eqb (p .level) (suc l)) (sum (is q) (p .entries)) 0 * G q)) (t .pages) noPage (one-page l G))
       ∙ (sym (sum-below (λ q p. cond (eqb (p .level) (suc l)) (sum (is q) (p .entries)) 0 * G q) k (t .pages))
-      ∙ below-same k _ (λ q. other t l q * G q) (λ q ql. sum-times (λ p. cond (eqb (p .level) (suc l)) (sum (is q) (p .entries)) 0) (G q) (t .pages) ∙ ap (λ n. n * G q) (named-from t (facts-shape t F) l q ql))))
+      ∙ below-same k _ (λ q. other t l q * G q) (λ q ql. sum-times (λ p. cond (eqb (p .level) (suc l)) (sum (is q) (p .entries)) 0) (G q) (t .pages) ∙ ap (λ n. n * G q) (named-from t F l q ql))))
 
   -- below the root's level every page is a child
   pub not-top : (l : ℕ) → l < h → (q : ℕ) → other t l q ≡ one (eqb (page t q .level) l)
@@ -88,24 +88,10 @@ module _ (t : Table) (F : Facts t) where
   all-under f (suc l) lh =
       children l lh (under f (t .pages) l) ∙ all-under f l (omega arith)
 
-  -- nothing but the root is at its level or above
-  pub none-above : (d i : ℕ) → i + d ≡ 5 → h ≤ i → others t i ≡ 0
-  none-above zero i e hi =
-      let z : i ≡ 5 = omega arith in
-      rw z (omega (arith, others-held t (facts-shape t F) 5, none-six t (facts-shape t F)))
-  none-above (suc d) i e hi =
-      omega (
-        arith,
-        others-held t (facts-shape t F) i,
-        others-most t (facts-shape t F) (suc i),
-        none-above d (suc i) (omega arith) (omega arith),
-        ap {B = ℕ} (λ b. cond b 8 0) (ne-eqb h (suc i) (omega arith)),
-      )
-
   -- the root alone is at its level
   pub top-one : (q : ℕ) → q < k → q ≢ t .root → page t q .level ≢ h
   top-one q ql n z =
-      let a : others t h ≡ 0 = none-above (5 - h) h (omega (arith, F .levels (t .root) (F .top))) (omega arith) in
+      let a : others t h ≡ 0 = none-above t F (4 - h) h (omega (arith, F .levels (t .root) (F .top))) (omega arith) in
       let b : other t h q ≡ 1 = rw (ne-eqb q (t .root) n, eq-eqb (page t q .level) h z) in
       omega (arith, a, b, below-at k (other t h) q ql)
 

@@ -2,7 +2,7 @@
 use Prim.Native.Nat.{ℕ, zero, suc, _+_, _*_, _≤_, _<_}
 use native.Mathlib.Omega.{arith}
 use native.Mathlib.Nat.{le-of-suc-le-suc, not-suc-le-zero, mul-zero}
-use mathlib.Core.Path.{_≡_, refl, sym, ap, subst}
+use mathlib.Core.Path.{_≡_, refl, sym, ap, _∙_, subst}
 use mathlib.Core.Bool.{_&&_}
 use mathlib.Core.List.{List, [], _∷_, _++_}
 use lib.ListN.{length, getD, take, drop, replicate, length-take}
@@ -79,6 +79,11 @@ sound-from w v e a b = subst (λ x. T (soundTable (decode x) && allOf (soundBlan
 pub sound-encode : (t : Table) (rest : List ℕ) → Facts t → T (sound (encode t ++ rest))
 sound-encode t rest F = sound-from (encode t ++ rest) (encode t) (take-at (encode t) rest TABLE_WORDS (length-encode t))
     (subst (λ x. T (soundTable x)) (sym (decode-encode t F)) (sound-of t F)) (blank-encode t F)
+
+-- read back from the words at the start of a slice
+pub encode-in : (t : Table) (rest : List ℕ) → Facts t → tableIn (encode t ++ rest) ≡ t
+unfolding tableIn
+encode-in t rest F = ap decode (take-at (encode t) rest TABLE_WORDS (length-encode t)) ∙ decode-encode t F
 
 pub sound-in : (w : List ℕ) → T (sound w) → Facts (tableIn w)
 unfolding sound tableIn

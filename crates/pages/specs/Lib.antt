@@ -8,3 +8,5 @@ pub mod Refusals
 pub mod Calls
 pub mod Readers
 pub mod Under
+pub mod Examples
+pub mod Claims
