@@ -8,6 +8,7 @@ use lib.ListN.{length, getD, drop, set, length-append, length-drop}
 use lib.Dec.{T, ltb}
 use borrow.Author.Tests.{lt-ltb}
 use Rattle.pages.specs.declared.Rect.{Rect}
+use Rattle.pages.specs.declared.Entry.{Entry}
 use Rattle.pages.specs.Sizes.{FANOUT, PIECES, PAGES, TABLE_WORDS, TOP_LEVEL}
 use Rattle.pages.specs.Lists.{sum, sumBelow}
 use Rattle.pages.specs.Rectangles.{entryOf, valid}
@@ -16,15 +17,17 @@ use Rattle.pages.specs.Sound.{leaf, pieceEntries, is, stored, sound}
 use Rattle.pages.proofs.Lists.{sum-cond}
 use Rattle.pages.proofs.Below.{below-same, sum-places}
 use Rattle.pages.proofs.Facts.{Facts}
+use Rattle.pages.proofs.Entries.{leaves}
 use Rattle.pages.proofs.Cells.{page-in}
 use Rattle.pages.proofs.Round.{level-word, length-encode}
-use Rattle.pages.proofs.Whole.{sound-encode, sound-in}
+use Rattle.pages.proofs.Whole.{sound-encode, encode-in, sound-in}
 use Rattle.pages.proofs.Counting.{count-few}
 use Rattle.soundness.proofs.Words as slice
 use Rattle.placing.specs.Place.{Step, entryFor, newRoot, place}
 use Rattle.placing.specs.Calls.{placedWords}
+use Rattle.placing.specs.Claims.{held}
 use Rattle.placing.specs.Steps.{putPage, Written, writtenOf, entryForIn, placeAt, rootMade, placeIn, heldIn, heldBelow}
-use Rattle.placing.proofs.Placed.{before, rootStep, root-after, place-sound}
+use Rattle.placing.proofs.Placed.{before, rootStep, root-after, place-sound, place-holds}
 use Rattle.placing.proofs.PageWords.{filled-in}
 use Rattle.placing.proofs.TableWords.{tabled, tabled-in, pages-word, root-word, pieces-word, page-words, entry-for, root-set, pieces-set, page-append}
 use Rattle.placing.proofs.Descent.{place-down}
@@ -153,6 +156,14 @@ module _ (w : List ℕ) (n : ℕ) (r : Rect) (wl : TABLE_WORDS ≤ length w) (h 
     subst (λ v. T (sound v)) (sym (words-open w n r)) (sound-encode (place (tableIn w) n r) (drop TABLE_WORDS w) left),
     ap length (words-open w n r) ∙ omega (arith, length-append (encode (place (tableIn w) n r)) (drop TABLE_WORDS w), length-encode (place (tableIn w) n r), length-drop TABLE_WORDS w),
   )
+
+-- the new piece, and what was held before
+pub words-hold : (w : List ℕ) (n : ℕ) (r : Rect) → T (sound w) → T (valid r) → n < PIECES → stored (tableIn w) n ≡ 0 → (f : Entry → ℕ) → held f (placedWords w n r) ≡ f (entryOf r n) + held f w
+words-hold w n r h vr vn free f =
+    let t : Table = tableIn w in
+    let F : Facts t = sound-in w h in
+    ap (λ x. leaves f (x .pages)) (ap tableIn (words-open w n r) ∙ encode-in (place t n r) (drop TABLE_WORDS w) (place-sound t n r F vr vn free))
+    ∙ place-holds t n r F vr vn free f
 
 -- what the leaves hold
 held-page : (g : Page) (c : ℕ) → length (g .entries) ≤ FANOUT → heldIn (encodePage g) c ≡ sum (is c) (pieceEntries g)

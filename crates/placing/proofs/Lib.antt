@@ -17,3 +17,5 @@ pub mod Joined
 pub mod Called
 pub mod Tested
 pub mod Untouched
+pub mod Along
+pub mod Claimed

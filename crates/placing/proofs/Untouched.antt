@@ -114,7 +114,7 @@ module _ (w : List ℕ) (n : ℕ) (r : Rect) (wl : TABLE_WORDS ≤ length w) (h 
   pub later-untouched : (q : ℕ) → length (place (tableIn w) n r .pages) ≤ q → q < PAGES → pageWords (placedWords w n r) q ≡ pageWords w q
   later-untouched q l below = same-words q below (place-later (tableIn w) n r q l)
 
-  -- and so have the words after the table
-  pub rest-untouched : drop TABLE_WORDS (placedWords w n r) ≡ drop TABLE_WORDS w
-  unfolding placedWords
-  rest-untouched = drop-at (encode (place (tableIn w) n r)) (drop TABLE_WORDS w) TABLE_WORDS (length-encode (place (tableIn w) n r))
+-- and so have the words after the table
+pub rest-untouched : (w : List ℕ) (n : ℕ) (r : Rect) → drop TABLE_WORDS (placedWords w n r) ≡ drop TABLE_WORDS w
+unfolding placedWords
+rest-untouched w n r = drop-at (encode (place (tableIn w) n r)) (drop TABLE_WORDS w) TABLE_WORDS (length-encode (place (tableIn w) n r))

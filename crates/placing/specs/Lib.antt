@@ -3,3 +3,4 @@ pub mod Place
 pub mod Calls
 pub mod Parts
 pub mod Steps
+pub mod Claims
