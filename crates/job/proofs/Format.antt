@@ -49,7 +49,8 @@ low base a n h = add-mul-mod-self-left a base n ∙ mod-eq-of-lt h
 high : (base a n : ℕ) → a < base → (a + base * n) / base ≡ n
 high base a n h = let some : 0 < base = omega arith in add-mul-div-left a n {y = base} some ∙ rw (div-eq-of-lt h) (omega arith)
 
-four-bytes : (a b c d : ℕ) → a < BYTE_VALUES → b < BYTE_VALUES → c < BYTE_VALUES → d < BYTE_VALUES → littleEndian WORD_BYTES (a + BYTE_VALUES * (b + BYTE_VALUES * (c + BYTE_VALUES * d))) ≡ a ∷ b ∷ c ∷ d ∷ []
+four-bytes : (a b c d : ℕ) → a < BYTE_VALUES → b < BYTE_VALUES → c < BYTE_VALUES → d < BYTE_VALUES
+    → littleEndian WORD_BYTES (a + BYTE_VALUES * (b + BYTE_VALUES * (c + BYTE_VALUES * d))) ≡ a ∷ b ∷ c ∷ d ∷ []
 four-bytes a b c d ha hb hc hd =
     rw (
       low BYTE_VALUES a (b + BYTE_VALUES * (c + BYTE_VALUES * d)) ha,

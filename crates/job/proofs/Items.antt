@@ -16,13 +16,15 @@ use Rattle.placing.specs.Calls.{placeSound, placeCall}
 use Rattle.query.specs.declared.Answer.{Answer}
 use Rattle.query.specs.Calls.{querySound, queryCall}
 use Rattle.history.specs.Replay.{CALL_WORDS}
+use Rattle.job.specs.declared.Answered.{Answered}
 use Rattle.job.specs.Sizes.{JOB_BYTES, WORD_BYTES, QUERY_HEAD, CLAUSE_COUNT_AT, CLAUSE_WORDS}
 use Rattle.job.specs.Lines.{UNPLACED, line}
 use Rattle.job.specs.Output.{pieceLine, queryLine, room, answerOf}
 use Rattle.job.specs.Words.{wordAt, rectAt, clausesAt, pieceCount, pieceStart, pieceAt, queryCount, queryStart, queryAt, wellFormed}
-use Rattle.job.specs.Steps.{tableAt, pieceLineAt, queryLineAt}
+use Rattle.job.specs.Steps.{tableAt, pieceLineAt, queryLineAt, answerAfter, put, piecePlaced, queryAnswered}
 use Rattle.job.proofs.Places.{first-start, next-start, ends-before, starts-after}
 use Rattle.job.proofs.Tables.{place-is, query-is, fine-table}
+use Rattle.job.proofs.Writing.{put-none}
 use Rattle.job.proofs.Asking.{same-line}
 
 module _ (b : List ℕ) (good : T (wellFormed b)) where
@@ -50,7 +52,7 @@ module _ (b : List ℕ) (good : T (wellFormed b)) where
       starts-late zero = omega arith
       starts-late (suc n) = omega (arith, next-start b n, starts-late n)
 
--- the table and the line of a piece, from what the place call returned
+-- a piece placed, from what the place call returned
 module _ (b : List ℕ) (i : ℕ) (t : List ℕ) (number : ℕ) (rect : Rect) (t' : List ℕ) (r : ℕ)
     (et : t ≡ tableAt b i) (en : number ≡ wordAt b (pieceStart i)) (er : rect ≡ rectAt b (pieceStart i + 1))
     (called : (r, t') ≡ placeSound t number rect) where
@@ -69,33 +71,55 @@ module _ (b : List ℕ) (i : ℕ) (t : List ℕ) (number : ℕ) (rect : Rect) (t
   unfolding pieceLine
   line-tests = refl
 
-  pub piece-accepted : r ≡ ACCEPTED → ([] ≡ pieceLineAt b i) × (t' ≡ tableAt b (i + 1))
-  piece-accepted e = (sym (line-is ∙ line-tests ∙ rw (eq-eqb r ACCEPTED e)), table-is)
+  placed : (x : ℕ × List ℕ) (out its : List ℕ) → x ≡ put 0 its out → pieceLineAt b i ≡ its → (x, t') ≡ piecePlaced b i out
+  placed x out its e l = rw (e, l, table-is)
 
-  pub piece-refused : (written : List ℕ) → (r ≡ ACCEPTED → ⊥) → written ≡ line UNPLACED (i ∷ r ∷ []) → (written ≡ pieceLineAt b i) × (t' ≡ tableAt b (i + 1))
-  piece-refused written e l = (l ∙ sym (line-is ∙ line-tests ∙ rw (ne-eqb r ACCEPTED e)), table-is)
+  pub piece-accepted : (out : List ℕ) → r ≡ ACCEPTED → ((0, out), t') ≡ piecePlaced b i out
+  piece-accepted out e = placed (0, out) out [] (put-none out 0) (line-is ∙ line-tests ∙ rw (eq-eqb r ACCEPTED e))
 
--- the line of a query, from what the query call returned
+  pub piece-refused : (x : ℕ × List ℕ) (out : List ℕ) → (r ≡ ACCEPTED → ⊥) → x ≡ put 0 (line UNPLACED (i ∷ r ∷ [])) out → (x, t') ≡ piecePlaced b i out
+  piece-refused x out e l = placed x out (line UNPLACED (i ∷ r ∷ [])) l (line-is ∙ line-tests ∙ rw (ne-eqb r ACCEPTED e))
+
+-- a query answered, from what the query call returned
 module _ (b : List ℕ) (i at : ℕ) (table answer : List ℕ) (a : Answer) (after : List ℕ)
     (et : table ≡ tableAt b (pieceCount b)) (ea : at ≡ queryStart b i) (size : length answer ≡ PIECES)
     (called : (a, after) ≡ querySound table (rectAt b at) (clausesAt b (at + QUERY_HEAD) (wordAt b (at + CLAUSE_COUNT_AT))) answer) where
+  abbrev end : List ℕ
+  end = tableAt b (pieceCount b)
+
+  abbrev reference : Rect
+  reference = rectAt b (queryStart b i)
+
+  abbrev clauses : List ℕ
+  clauses = clausesAt b (queryStart b i + QUERY_HEAD) (wordAt b (queryStart b i + CLAUSE_COUNT_AT))
+
   room-size : length room ≡ PIECES
   unfolding room
   room-size = length-replicate {A = ℕ} PIECES 0
 
-  abbrev asked : List ℕ → ℕ → List ℕ → Answer × List ℕ
-  asked w s a = querySound w (rectAt b s) (clausesAt b (s + QUERY_HEAD) (wordAt b (s + CLAUSE_COUNT_AT))) a
-
-  line-at : queryLineAt b i
-      ≡ queryLine i (queryCall (tableAt b (pieceCount b)) (rectAt b (queryStart b i)) (clausesAt b (queryStart b i + QUERY_HEAD) (wordAt b (queryStart b i + CLAUSE_COUNT_AT))) room)
+  line-at : queryLineAt b i ≡ queryLine i (queryCall end reference clauses room)
   unfolding queryLineAt answerOf queryAt
   line-at = refl
 
-  pub query-made : queryLine i (a, after) ≡ queryLineAt b i
-  query-made =
-      ap (queryLine i) called
-      ∙ same-line table (rectAt b at) (clausesAt b (at + QUERY_HEAD) (wordAt b (at + CLAUSE_COUNT_AT))) i answer room (size ∙ sym room-size)
-      ∙ ap (λ w. queryLine i (asked w at room)) et
-      ∙ ap (λ s. queryLine i (asked (tableAt b (pieceCount b)) s room)) ea
-      ∙ ap (queryLine i) (sym (query-is (tableAt b (pieceCount b)) (fine-table b (pieceCount b)) (rectAt b (queryStart b i)) (clausesAt b (queryStart b i + QUERY_HEAD) (wordAt b (queryStart b i + CLAUSE_COUNT_AT))) room))
+  answer-at : answerAfter b i answer ≡ queryCall end reference clauses answer .1
+  unfolding answerAfter queryAt
+  answer-at = refl
+
+  as-asked : (a, after) ≡ querySound end reference clauses answer
+  as-asked = called ∙ rw (et, ea)
+
+  line-made : queryLine i (a, after) ≡ queryLineAt b i
+  line-made =
+      ap (queryLine i) as-asked
+      ∙ same-line end reference clauses i answer room (size ∙ sym room-size)
+      ∙ ap (queryLine i) (sym (query-is end (fine-table b (pieceCount b)) reference clauses room))
       ∙ sym line-at
+
+  answer-left : after ≡ answerAfter b i answer
+  answer-left = ap (λ x. x .1) (as-asked ∙ sym (query-is end (fine-table b (pieceCount b)) reference clauses answer)) ∙ sym answer-at
+
+  pub query-answered : (r next : ℕ) (out out' : List ℕ) → (r, out') ≡ put 0 (queryLine i (a, after)) out → next ≡ queryStart b (i + 1)
+      → _≡_ {A = Answered × List ℕ × List ℕ} (record { length = r; next = next }, after, out') (queryAnswered b i answer out)
+  query-answered r next out out' e n =
+      let written = e ∙ ap (λ l. put 0 l out) line-made in
+      ap (λ x. (record { length = x .0; next = next }, after, x .1)) written ∙ rw (n, answer-left)

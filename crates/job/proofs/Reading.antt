@@ -17,7 +17,8 @@ pub no-clauses : (bytes : List ℕ) (at : ℕ) (clauses : List ℕ) → take 0 c
 unfolding clausesAt
 no-clauses bytes at clauses = refl
 
-pub more-clauses : (bytes clauses : List ℕ) (at i v : ℕ) → i < length clauses → v ≡ clauseAt bytes (at + CLAUSE_WORDS * i) → take i clauses ≡ clausesAt bytes at i → take (i + 1) (set clauses i v) ≡ clausesAt bytes at (i + 1)
+pub more-clauses : (bytes clauses : List ℕ) (at i v : ℕ) → i < length clauses → v ≡ clauseAt bytes (at + CLAUSE_WORDS * i) → take i clauses ≡ clausesAt bytes at i
+    → take (i + 1) (set clauses i v) ≡ clausesAt bytes at (i + 1)
 unfolding clausesAt
 more-clauses bytes clauses at i v h e before = rw (add-one, take-suc-set, before, e)
 

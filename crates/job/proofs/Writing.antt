@@ -1,33 +1,59 @@
--- Writing one byte after the other: what stands before the next place grows by what was put there.
-use Prim.Native.Nat.{ℕ, _+_, _*_, _/_, _%_, _≤_, _<_}
+-- Putting one text after the other: two of them are their join, a store is a text of one byte; and a line by its fields.
+use Prim.Native.Nat.{ℕ, _+_, _/_, _%_, _≤_, _<_}
 use mathlib.Core.Path.{_≡_, refl, sym, ap, _∙_}
 use mathlib.Core.List.{List, [], _∷_, _++_, append-assoc, append-nil}
 use native.Mathlib.Omega.{arith}
+use native.Mathlib.Nat.{add-zero}
 use native.Mathlib.Numerals.{add-one}
-use lib.ListN.{length, take, set, getD}
-use lib.Seq.{take-suc, take-suc-set, take-all}
-use Rattle.job.specs.Sizes.{FIELD_BYTES}
+use lib.ListN.{length, take, drop, set, getD, length-append, take-append-drop}
+use lib.Seq.{length-take-le, take-suc, take-all, take-at, drop-at, drop-drop, set-split}
 use Rattle.job.specs.Lines.{DIGIT_ZERO, SPACE, NEWLINE, decimal, fields, line}
-use Rattle.job.proofs.Decimal.{decimal-one, decimal-more, length-one, length-more, word-decimal}
+use Rattle.job.specs.Steps.{put}
+use Rattle.job.proofs.Decimal.{decimal-one, decimal-more}
 
-pub put-byte : (out : List ℕ) (at v : ℕ) → at < length out → take (at + 1) (set out at v) ≡ take at out ++ (v ∷ [])
-put-byte out at v h = rw (add-one, take-suc-set)
+-- where a text ends
+pub ends : {x y : ℕ × List ℕ} → x ≡ y → x .0 ≡ y .0
+ends e = ap (λ x. x .0) e
+
+-- a text put at the start is the front
+pub front-is : (text rest : List ℕ) {x : ℕ × List ℕ} → x ≡ (0 + length text, text ++ rest) → take (x .0) (x .1) ≡ text
+front-is text rest e = ap (λ x. take (x .0) (x .1)) e ∙ take-at text rest (0 + length text) (omega arith)
+
+pub put-none : (out : List ℕ) (at : ℕ) → (at, out) ≡ put at [] out
+put-none out at = sym (rw (add-zero at, take-append-drop at out))
+
+-- one byte
+pub put-byte : (out : List ℕ) (at v : ℕ) → at < length out → (at + 1, set out at v) ≡ put at (v ∷ []) out
+put-byte out at v h = ap (λ l. (at + 1, l)) (set-split out at v h ∙ ap (λ k. take at out ++ (v ∷ drop k out)) (sym (add-one at)))
+
+module _ (out : List ℕ) (at : ℕ) (within : at ≤ length out) where
+  -- the two texts of a join, one right after the other
+  put-both : (a b : List ℕ) → put (put at a out .0) b (put at a out .1) ≡ put at (a ++ b) out
+  put-both a b =
+      let front = take at out ++ a in
+      let next = at + length a in
+      let rest = drop next out in
+      let size : length front ≡ next = omega (arith, length-append (take at out) a, length-take-le at out within) in
+      let split = sym (append-assoc (take at out) a rest) in
+      let before = ap (take next) split ∙ take-at front rest next size in
+      let behind = sym (drop-drop (length b) next (take at out ++ (a ++ rest))) ∙ ap (λ l. drop (length b) l) (ap (drop next) split ∙ drop-at front rest next size) ∙ drop-drop (length b) next out in
+      let last : next + length b ≡ at + length (a ++ b) = omega (arith, length-append a b) in
+      rw (before, behind, last, append-assoc (take at out) a, append-assoc a b)
+
+  pub put-then : (s : ℕ) (mid a b : List ℕ) (x : ℕ × List ℕ) → (s, mid) ≡ put at a out → x ≡ put s b mid → x ≡ put at (a ++ b) out
+  put-then s mid a b x first second = second ∙ ap (λ y. put (y .0) b (y .1)) first ∙ put-both a b
+
+  pub put-next : (s v : ℕ) (mid a : List ℕ) → s < length mid → (s, mid) ≡ put at a out → (s + 1, set mid s v) ≡ put at (a ++ (v ∷ [])) out
+  put-next s v mid a h first = put-then s mid a (v ∷ []) _ first (put-byte mid s v h)
 
 -- a number of one digit
-pub put-one : (out : List ℕ) (at n v : ℕ) → v ≡ DIGIT_ZERO + n → n < 10 → at + length (decimal n) ≤ length out
-    → (at + 1 ≡ at + length (decimal n)) × (take (at + 1) (set out at v) ≡ take at out ++ decimal n)
-put-one out at n v e h room = rw (decimal-one n h, e) (refl, put-byte out at (DIGIT_ZERO + n) (omega (arith, length-one n h)))
+pub put-one : (out : List ℕ) (at n v : ℕ) → v ≡ DIGIT_ZERO + n → n < 10 → at < length out → (at + 1, set out at v) ≡ put at (decimal n) out
+put-one out at n v e h room = rw (decimal-one n h, e) (put-byte out at (DIGIT_ZERO + n) room)
 
 -- the last digit of a longer number, after the others
-pub put-more : (out mid : List ℕ) (at n next v : ℕ) → v ≡ DIGIT_ZERO + n % 10 → 10 ≤ n → next ≡ at + length (decimal (n / 10))
-    → take next mid ≡ take at out ++ decimal (n / 10) → length mid ≡ length out → at + length (decimal n) ≤ length out
-    → (next + 1 ≡ at + length (decimal n)) × (take (next + 1) (set mid next v) ≡ take at out ++ decimal n)
-put-more out mid at n next v e h ends before same room =
-    (omega (arith, length-more n h), put-byte mid next v (omega (arith, length-more n h)) ∙ rw (before, e, append-assoc, ← decimal-more n h))
-
--- a byte, and what is put after it
-pub put-after : (out : List ℕ) (at v : ℕ) (rest after : List ℕ) → at < length out → after ≡ take (at + 1) (set out at v) ++ rest → after ≡ take at out ++ (v ∷ rest)
-put-after out at v rest after h e = e ∙ rw (put-byte out at v h, append-assoc)
+pub put-more : (out mid : List ℕ) (at n next v : ℕ) → v ≡ DIGIT_ZERO + n % 10 → 10 ≤ n → at ≤ length out → next < length mid
+    → (next, mid) ≡ put at (decimal (n / 10)) out → (next + 1, set mid next v) ≡ put at (decimal n) out
+put-more out mid at n next v e h within room before = rw (decimal-more n h, e) (put-next out at within next (DIGIT_ZERO + n % 10) mid (decimal (n / 10)) room before)
 
 fields-one : (n : ℕ) → fields (n ∷ []) ≡ SPACE ∷ decimal n
 unfolding fields
@@ -38,41 +64,42 @@ unfolding fields
 fields-append [] ys = refl
 fields-append (x ∷ xs) ys = rw (fields-append xs ys, append-assoc)
 
--- one number more
-pub next-field : (before after : List ℕ) (ns : List ℕ) (n : ℕ) (front : List ℕ) → before ≡ front ++ fields ns → after ≡ before ++ (SPACE ∷ decimal n) → after ≡ front ++ fields (ns ++ (n ∷ []))
-next-field before after ns n front e step = step ∙ rw (e, fields-append, fields-one, append-assoc)
-
--- and a list of numbers
-pub more-fields : (before after : List ℕ) (ns ms : List ℕ) (front : List ℕ) → before ≡ front ++ fields ns → after ≡ before ++ fields ms → after ≡ front ++ fields (ns ++ ms)
-more-fields before after ns ms front e step = step ∙ rw (e, fields-append, append-assoc)
-
-pub no-fields : (front : List ℕ) → front ≡ front ++ fields []
+pub no-fields : (out : List ℕ) (at : ℕ) → (at, out) ≡ put at (fields []) out
 unfolding fields
-no-fields front = sym (append-nil front)
+no-fields out at = put-none out at
 
--- number i of a list, after those before it
-pub field-at : (before after : List ℕ) (numbers : List ℕ) (i : ℕ) (front : List ℕ) → i < length numbers → before ≡ front ++ fields (take i numbers) → after ≡ before ++ (SPACE ∷ decimal (getD numbers i 0)) → after ≡ front ++ fields (take (i + 1) numbers)
-field-at before after numbers i front h e step =
-    next-field before after (take i numbers) (getD numbers i 0) front e step ∙ rw (add-one, take-suc numbers i 0)
+-- after a front and some fields, more of them, and one more
+module _ (out front : List ℕ) (at : ℕ) (within : at ≤ length out) (s : ℕ) (mid : List ℕ) (x : ℕ × List ℕ) where
+  pub more-fields : (ns ms : List ℕ) → (s, mid) ≡ put at (front ++ fields ns) out → x ≡ put s (fields ms) mid → x ≡ put at (front ++ fields (ns ++ ms)) out
+  more-fields ns ms first second =
+      put-then out at within s mid (front ++ fields ns) (fields ms) x first second
+      ∙ ap (λ l. put at l out) (append-assoc front (fields ns) (fields ms) ∙ ap (λ l. front ++ l) (sym (fields-append ns ms)))
 
--- the letter, the fields, and the newline
-pub letter-put : (out : List ℕ) (letter : ℕ) → 0 < length out → take 1 (set out 0 letter) ≡ (letter ∷ []) ++ fields []
-letter-put out letter h = put-byte out 0 letter h ∙ no-fields (letter ∷ [])
+  pub next-field : (ns : List ℕ) (n : ℕ) → (s, mid) ≡ put at (front ++ fields ns) out → x ≡ put s (SPACE ∷ decimal n) mid → x ≡ put at (front ++ fields (ns ++ (n ∷ []))) out
+  next-field ns n first second = more-fields ns (n ∷ []) first (second ∙ ap (λ l. put s l mid) (sym (fields-one n)))
 
-pub line-end : (out : List ℕ) (last letter : ℕ) (ns : List ℕ) → last < length out → take last out ≡ (letter ∷ []) ++ fields ns → take (last + 1) (set out last NEWLINE) ≡ line letter ns
+-- number i of a list after those before it, and all of them
+module _ (out : List ℕ) (at : ℕ) (numbers : List ℕ) (i : ℕ) where
+  pub field-at : (s : ℕ) (mid : List ℕ) (x : ℕ × List ℕ) → at ≤ length out → i < length numbers
+      → (s, mid) ≡ put at (fields (take i numbers)) out → x ≡ put s (SPACE ∷ decimal (getD numbers i 0)) mid → x ≡ put at (fields (take (i + 1) numbers)) out
+  field-at s mid x within h first second =
+      next-field out [] at within s mid x (take i numbers) (getD numbers i 0) first second
+      ∙ ap (λ l. put at (fields l) out) (sym (ap (λ k. take k numbers) (add-one i) ∙ take-suc numbers i 0 h))
+
+  pub all-fields : (x : ℕ × List ℕ) → length numbers ≤ i → x ≡ put at (fields (take i numbers)) out → x ≡ put at (fields numbers) out
+  all-fields x h e = e ∙ ap (λ l. put at (fields l) out) (take-all i numbers h)
+
+-- the letter and two fields: the buffer after the first field is mid
+pub head-made : (out mid : List ℕ) (letter p r s : ℕ) (x : ℕ × List ℕ) → 0 < length out
+    → (s, mid) ≡ put 1 (SPACE ∷ decimal p) (set out 0 letter) → x ≡ put s (SPACE ∷ decimal r) mid → x ≡ put 0 (letter ∷ fields (p ∷ r ∷ [])) out
+head-made out mid letter p r s x h first second =
+    let begun = put-then out 0 (omega arith) 1 (set out 0 letter) (letter ∷ []) (fields []) _ (put-byte out 0 letter h) (no-fields (set out 0 letter) 1) in
+    next-field out (letter ∷ []) 0 (omega arith) s mid x (p ∷ []) r
+    (next-field out (letter ∷ []) 0 (omega arith) 1 (set out 0 letter) (s, mid) [] p begun first)
+    second
+
+-- the newline
+pub line-end : (out mid : List ℕ) (last letter : ℕ) (ns : List ℕ) → last < length mid → (last, mid) ≡ put 0 (letter ∷ fields ns) out
+    → (last + 1, set mid last NEWLINE) ≡ put 0 (line letter ns) out
 unfolding line
-line-end out last letter ns h e = put-byte out last NEWLINE h ∙ rw e
-
--- all of a list
-pub all-fields : (out : List ℕ) (numbers : List ℕ) (i : ℕ) (front : List ℕ) → length numbers ≤ i → out ≡ front ++ fields (take i numbers) → out ≡ front ++ fields numbers
-all-fields out numbers i front h e = e ∙ rw (take-all i numbers h)
-
--- the letter and two fields: the buffer after the first field is l1
-pub head-made : (out l1 : List ℕ) (letter p r s t : ℕ) (after : List ℕ) → 1 + 2 * FIELD_BYTES ≤ length out → p < 4_294_967_296 → r < 4_294_967_296
-    → s ≡ 2 + length (decimal p) → take s l1 ≡ take 1 (set out 0 letter) ++ (SPACE ∷ decimal p)
-    → t ≡ s + 1 + length (decimal r) → after ≡ take s l1 ++ (SPACE ∷ decimal r)
-    → (t ≤ 1 + 2 * FIELD_BYTES) × (after ≡ (letter ∷ []) ++ fields (p ∷ r ∷ []))
-head-made out l1 letter p r s t after room small small' es first et second = (
-  omega (arith, word-decimal p small, word-decimal r small'),
-  next-field _ _ (p ∷ []) r (letter ∷ []) (next-field _ _ [] p (letter ∷ []) (letter-put out letter (omega arith)) first) second,
-)
+line-end out mid last letter ns h e = put-next out 0 (omega arith) last NEWLINE mid (letter ∷ fields ns) h e

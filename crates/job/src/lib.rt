@@ -13,7 +13,7 @@ use words::rect_at;
 use words::word_at;
 ghost use mathlib.Core.Path.{_≡_};
 ghost use Prim.Native.Nat.{_+_, _*_, _≤_, _<_, min};
-ghost use lib.ListN.{length, take};
+ghost use lib.ListN.{length};
 ghost use lib.Dec.{T, eqb};
 ghost use Rattle.pages.specs.Sizes.{TABLE_WORDS, PIECES};
 ghost use Rattle.pages.specs.Sound.{sound};
@@ -22,7 +22,7 @@ ghost use Rattle.query.specs.Calls.{querySound};
 ghost use Rattle.job.specs.Sizes.{WORD_BYTES, JOB_BYTES, LINE_BYTES, QUERY_HEAD, CLAUSE_COUNT_AT, CLAUSE_WORDS};
 ghost use Rattle.job.specs.Output.{queryLine, badJob};
 ghost use Rattle.job.specs.Words.{wordAt, rectAt, clausesAt, pieceCount, queryCount, queryStart, wellFormed};
-ghost use Rattle.job.specs.Steps.{shapeOf, noShape, tableAt, pieceLineAt, queryLineAt};
+ghost use Rattle.job.specs.Steps.{shapeOf, noShape, tableAt, put, piecePlaced, queryAnswered};
 
 // The largest job.
 pub const JOB_BYTES: usize = 65_536;
@@ -126,7 +126,8 @@ pub fn shape_of(bytes: &[u8]) -> Shape
 // Writes all that a bad job prints, and gives its length.
 pub fn bad_job(out: &mut [u8]) -> usize
     requires { ⌜ LINE_BYTES ≤ length (now out) ⌝ }
-    ensures { λ r. ⌜ (r ≤ LINE_BYTES) × (take r (now (out .exit)) ≡ badJob) ⌝ }
+    ensures most { λ r. ⌜ r ≤ LINE_BYTES ⌝ }
+    ensures bytes { λ r. ⌜ (r, now (out .exit)) ≡ put 0 badJob (now (out .entry)) ⌝ }
 {
     let line = [b'b', b'a', b'd', SPACE, b'j', b'o', b'b', NEWLINE];
     for i in 0..BAD_JOB_BYTES {
@@ -145,8 +146,11 @@ pub fn start(table: &mut [u32])
 
 // Places piece `i`, and writes its line, if it is refused. Gives the line's length.
 pub fn place_piece(job: &[u8], i: usize, table: &mut [u32], out: &mut [u8]) -> usize
-    requires { ⌜ T (wellFormed (now job)) × (i < pieceCount (now job)) × (now table ≡ tableAt (now job) i) × (LINE_BYTES ≤ length (now out)) ⌝ }
-    ensures { λ r. ⌜ (r ≤ LINE_BYTES) × (take r (now (out .exit)) ≡ pieceLineAt (now (job .entry)) i) × (now (table .exit) ≡ tableAt (now (job .entry)) (i + 1)) ⌝ }
+    requires { ⌜ T (wellFormed (now job)) × (i < pieceCount (now job)) × (now table ≡ tableAt (now job) i)
+        × (LINE_BYTES ≤ length (now out)) ⌝ }
+    ensures most { λ r. ⌜ r ≤ LINE_BYTES ⌝ }
+    ensures placed { λ r.
+        ⌜ ((r, now (out .exit)), now (table .exit)) ≡ piecePlaced (now (job .entry)) i (now (out .entry)) ⌝ }
 {
     let at = 1 + CALL_WORDS * i;
     let number = word_at(job, at);
@@ -166,8 +170,11 @@ fn least(a: usize, b: usize) -> usize
 
 // Asks the query that begins at word `at`.
 fn ask(job: &[u8], at: usize, table: &[u32], answer: &mut [u16]) -> Answer
-    requires { ⌜ (WORD_BYTES * (at + QUERY_HEAD + CLAUSE_WORDS * wordAt (now job) (at + CLAUSE_COUNT_AT)) ≤ length (now job)) × (TABLE_WORDS ≤ length (now table)) × T (sound (now table)) ⌝ }
-    ensures { λ r. ⌜ (r, now (answer .exit)) ≡ querySound (now (table .entry)) (rectAt (now (job .entry)) at) (clausesAt (now (job .entry)) (at + QUERY_HEAD) (wordAt (now (job .entry)) (at + CLAUSE_COUNT_AT))) (now (answer .entry)) ⌝ }
+    requires { ⌜ (WORD_BYTES * (at + QUERY_HEAD + CLAUSE_WORDS * wordAt (now job) (at + CLAUSE_COUNT_AT)) ≤ length (now job))
+        × (TABLE_WORDS ≤ length (now table)) × T (sound (now table)) ⌝ }
+    ensures { λ r.
+        ⌜ (r, now (answer .exit)) ≡ querySound (now (table .entry)) (rectAt (now (job .entry)) at)
+        (clausesAt (now (job .entry)) (at + QUERY_HEAD) (wordAt (now (job .entry)) (at + CLAUSE_COUNT_AT))) (now (answer .entry)) ⌝ }
 {
     let mut clauses = [0u64; CLAUSES_READ];
     let n = least(word_at(job, at + CLAUSE_COUNT_AT) as usize, CLAUSES_READ);
@@ -177,7 +184,8 @@ fn ask(job: &[u8], at: usize, table: &[u32], answer: &mut [u16]) -> Answer
 
 fn query_line(out: &mut [u8], position: u32, a: Answer, answer: &[u16]) -> usize
     requires { ⌜ (LINE_BYTES ≤ length (now out)) × (length (now answer) ≡ PIECES) × (a .hits ≤ length (now answer)) ⌝ }
-    ensures { λ r. ⌜ (r ≤ LINE_BYTES) × (take r (now (out .exit)) ≡ queryLine position (a, now (answer .entry))) ⌝ }
+    ensures most { λ r. ⌜ r ≤ LINE_BYTES ⌝ }
+    ensures bytes { λ r. ⌜ (r, now (out .exit)) ≡ put 0 (queryLine position (a, now (answer .entry))) (now (out .entry)) ⌝ }
 {
     if a.refusal != ACCEPTED {
         return refused_line(out, REFUSED, position, a.refusal);
@@ -201,8 +209,11 @@ pub fn answer_query(
     answer: &mut [u16],
     out: &mut [u8],
 ) -> Answered
-    requires { ⌜ T (wellFormed (now job)) × (i < queryCount (now job)) × (at ≡ queryStart (now job) i) × (now table ≡ tableAt (now job) (pieceCount (now job))) × (length (now answer) ≡ PIECES) × (LINE_BYTES ≤ length (now out)) ⌝ }
-    ensures { λ r. ⌜ (r .length ≤ LINE_BYTES) × (take (r .length) (now (out .exit)) ≡ queryLineAt (now (job .entry)) i) × (r .next ≡ queryStart (now (job .entry)) (i + 1)) ⌝ }
+    requires { ⌜ T (wellFormed (now job)) × (i < queryCount (now job)) × (at ≡ queryStart (now job) i)
+        × (now table ≡ tableAt (now job) (pieceCount (now job))) × (length (now answer) ≡ PIECES) × (LINE_BYTES ≤ length (now out)) ⌝ }
+    ensures most { λ r. ⌜ r .length ≤ LINE_BYTES ⌝ }
+    ensures answered { λ r.
+        ⌜ (r, now (answer .exit), now (out .exit)) ≡ queryAnswered (now (job .entry)) i (now (answer .entry)) (now (out .entry)) ⌝ }
 {
     let a = ask(job, at, table, answer);
     let given = word_at(job, at + CLAUSE_COUNT_AT) as usize;

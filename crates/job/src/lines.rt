@@ -4,11 +4,12 @@ use crate::DIGIT_ZERO;
 use crate::NEWLINE;
 use crate::SPACE;
 ghost use mathlib.Core.Path.{_≡_};
-ghost use mathlib.Core.List.{[], _∷_, _++_};
+ghost use mathlib.Core.List.{[], _∷_};
 ghost use Prim.Native.Nat.{_+_, _*_, _≤_, _<_};
-ghost use lib.ListN.{length, take};
+ghost use lib.ListN.{length};
 ghost use Rattle.job.specs.Sizes.{FIELD_BYTES, NUMBER_BYTES};
 ghost use Rattle.job.specs.Lines.{DIGIT_ZERO, SPACE, ANSWERED, decimal, fields, line};
+ghost use Rattle.job.specs.Steps.{put};
 
 fn digit(n: u32) -> u8
     requires { ⌜ n < 10 ⌝ }
@@ -20,7 +21,7 @@ fn digit(n: u32) -> u8
 // Puts n in decimal at `at`, and gives the place after it.
 fn put_decimal(out: &mut [u8], at: usize, n: u32) -> usize
     requires { ⌜ at + length (decimal n) ≤ length (now out) ⌝ }
-    ensures { λ r. ⌜ (r ≡ at + length (decimal n)) × (take r (now (out .exit)) ≡ take at (now (out .entry)) ++ decimal n) ⌝ }
+    ensures { λ r. ⌜ (r, now (out .exit)) ≡ put at (decimal n) (now (out .entry)) ⌝ }
 {
     if n < 10 {
         out[at] = digit(n);
@@ -34,7 +35,7 @@ fn put_decimal(out: &mut [u8], at: usize, n: u32) -> usize
 // A space and n.
 fn put_field(out: &mut [u8], at: usize, n: u32) -> usize
     requires { ⌜ at + 1 + length (decimal n) ≤ length (now out) ⌝ }
-    ensures { λ r. ⌜ (r ≡ at + 1 + length (decimal n)) × (take r (now (out .exit)) ≡ take at (now (out .entry)) ++ (SPACE ∷ decimal n)) ⌝ }
+    ensures { λ r. ⌜ (r, now (out .exit)) ≡ put at (SPACE ∷ decimal n) (now (out .entry)) ⌝ }
 {
     out[at] = SPACE;
     put_decimal(out, at + 1, n)
@@ -42,7 +43,8 @@ fn put_field(out: &mut [u8], at: usize, n: u32) -> usize
 
 fn put_fields(out: &mut [u8], at: usize, numbers: &[u16]) -> usize
     requires { ⌜ at + NUMBER_BYTES * length (now numbers) ≤ length (now out) ⌝ }
-    ensures { λ r. ⌜ (r ≤ at + NUMBER_BYTES * length (now (numbers .entry))) × (take r (now (out .exit)) ≡ take at (now (out .entry)) ++ fields (now (numbers .entry))) ⌝ }
+    ensures most { λ r. ⌜ r ≤ at + NUMBER_BYTES * length (now (numbers .entry)) ⌝ }
+    ensures bytes { λ r. ⌜ (r, now (out .exit)) ≡ put at (fields (now (numbers .entry))) (now (out .entry)) ⌝ }
 {
     let mut next = at;
     for i in 0..numbers.len() {
@@ -54,7 +56,8 @@ fn put_fields(out: &mut [u8], at: usize, numbers: &[u16]) -> usize
 // The letter and the first two fields of a line.
 fn put_head(out: &mut [u8], letter: u8, first: u32, second: u32) -> usize
     requires { ⌜ 1 + 2 * FIELD_BYTES ≤ length (now out) ⌝ }
-    ensures { λ r. ⌜ (r ≤ 1 + 2 * FIELD_BYTES) × (take r (now (out .exit)) ≡ (letter ∷ []) ++ fields (first ∷ second ∷ [])) ⌝ }
+    ensures most { λ r. ⌜ r ≤ 1 + 2 * FIELD_BYTES ⌝ }
+    ensures bytes { λ r. ⌜ (r, now (out .exit)) ≡ put 0 (letter ∷ fields (first ∷ second ∷ [])) (now (out .entry)) ⌝ }
 {
     out[0] = letter;
     let next = put_field(out, 1, first);
@@ -64,7 +67,8 @@ fn put_head(out: &mut [u8], letter: u8, first: u32, second: u32) -> usize
 // The line of a refused piece or query.
 pub(crate) fn refused_line(out: &mut [u8], letter: u8, position: u32, refusal: u32) -> usize
     requires { ⌜ 2 + 2 * FIELD_BYTES ≤ length (now out) ⌝ }
-    ensures { λ r. ⌜ (r ≤ 2 + 2 * FIELD_BYTES) × (take r (now (out .exit)) ≡ line letter (position ∷ refusal ∷ [])) ⌝ }
+    ensures most { λ r. ⌜ r ≤ 2 + 2 * FIELD_BYTES ⌝ }
+    ensures bytes { λ r. ⌜ (r, now (out .exit)) ≡ put 0 (line letter (position ∷ refusal ∷ [])) (now (out .entry)) ⌝ }
 {
     let last = put_head(out, letter, position, refusal);
     out[last] = NEWLINE;
@@ -80,7 +84,9 @@ pub(crate) fn answered_line(
     numbers: &[u16],
 ) -> usize
     requires { ⌜ 2 + 3 * FIELD_BYTES + NUMBER_BYTES * length (now numbers) ≤ length (now out) ⌝ }
-    ensures { λ r. ⌜ (r ≤ 2 + 3 * FIELD_BYTES + NUMBER_BYTES * length (now (numbers .entry))) × (take r (now (out .exit)) ≡ line ANSWERED (position ∷ hits ∷ opened ∷ now (numbers .entry))) ⌝ }
+    ensures most { λ r. ⌜ r ≤ 2 + 3 * FIELD_BYTES + NUMBER_BYTES * length (now (numbers .entry)) ⌝ }
+    ensures bytes { λ r.
+        ⌜ (r, now (out .exit)) ≡ put 0 (line ANSWERED (position ∷ hits ∷ opened ∷ now (numbers .entry))) (now (out .entry)) ⌝ }
 {
     let third = put_head(out, ANSWERED, position, hits);
     let listed = put_field(out, third, opened);

@@ -25,7 +25,8 @@ kept-tests size before = refl
 
 pub kept-all : (out : List ℕ) (used : ℕ) → used + LINE_BYTES ≤ length out → take used out ≡ kept (length out) (take used out)
 kept-all out used h =
-    sym (kept-tests (length out) (take used out) ∙ ap (λ t. cond t (take used out) []) (le-leb (length (take used out) + LINE_BYTES) (length out) (omega (arith, length-take-le used out (omega arith)))))
+    sym (kept-tests (length out) (take used out)
+    ∙ ap (λ t. cond t (take used out) []) (le-leb (length (take used out) + LINE_BYTES) (length out) (omega (arith, length-take-le used out (omega arith)))))
 
 pub kept-none : (out : List ℕ) (used : ℕ) → used ≤ length out → length out < used + LINE_BYTES → take 0 out ≡ kept (length out) (take used out)
 kept-none out used h k =
@@ -67,7 +68,8 @@ module _ (out : List ℕ) (used : ℕ) (room : used + LINE_BYTES ≤ length out)
     -- the line is the next one, and the buffer was made ready for it
     pub behind : (whole was i : ℕ) (before : List ℕ) (f : ℕ → List ℕ) → length out ≡ whole → take used out ≡ kept (length out) (take was out)
         → take was out ≡ held whole before f i → take size line ≡ f i
-        → (used + size ≤ length (putMid used (length out - used) out line)) × (length (putMid used (length out - used) out line) ≡ whole) × (take (used + size) (putMid used (length out - used) out line) ≡ held whole before f (i + 1))
+        → (used + size ≤ length (putMid used (length out - used) out line)) × (length (putMid used (length out - used) out line) ≡ whole)
+        × (take (used + size) (putMid used (length out - used) out line) ≡ held whole before f (i + 1))
     behind whole was i before f e ready so put =
         let back = same-len-mid used (length out - used) out line same in (
           omega (arith, back),

@@ -47,20 +47,27 @@ rect-at-requires : tie.Need-rect-at-requires
 rect-at-requires c κs = search needs
 
 array-share-prefix-clauses : tie.Need-array-share-prefix-clauses
-array-share-prefix-clauses c = let n = c .before .before .before .before .least .result in prefix-fits n (c .before .before .read-clauses .last .1 .1 .0) (drop n (replicate TOO_MANY 0)) (cut n (omega arith) ∙ sym (c .before .before .read-clauses .kept .1 .1 .0))
+array-share-prefix-clauses c = let n = c .before .before .before .before .least .result in
+    prefix-fits n (c .before .before .read-clauses .last .1 .1 .0) (drop n (replicate TOO_MANY 0)) (cut n (omega arith) ∙ sym (c .before .before .read-clauses .kept .1 .1 .0))
 
 slice-aggregate-query-sound : tie.Need-slice-aggregate-query-sound
-slice-aggregate-query-sound c = let n = c .before .before .before .before .before .least .result in prefix-length n (c .before .before .before .read-clauses .last .1 .1 .0) (drop n (replicate TOO_MANY 0)) (cut n (omega arith) ∙ sym (c .before .before .before .read-clauses .kept .1 .1 .0))
+slice-aggregate-query-sound c = let n = c .before .before .before .before .before .least .result in
+    prefix-length n (c .before .before .before .read-clauses .last .1 .1 .0) (drop n (replicate TOO_MANY 0)) (cut n (omega arith) ∙ sym (c .before .before .before .read-clauses .kept .1 .1 .0))
 
 query-sound-requires : tie.Need-query-sound-requires
-query-sound-requires c κs = (c .before .before .before .before .before .before .before .before .before .before .before .pre .1, c .before .before .before .before .before .before .before .before .before .before .before .pre .2)
+query-sound-requires c κs = let first = c .before .before .before .before .before .before .before .before .before .before .before in (first .pre .1, first .pre .2)
 
 same-length : tie.Need-same-length
 same-length c = search needs
 
 returns : tie.Need-returns
-returns c = let at = c .before .before .before .before .before .before .before .before .before .before .before .before .before .before .args in let n = c .before .before .before .before .before .before .before .before .before .least .result in let read = c .before .before .before .before .before .before .before .read-clauses in
-    asked-all (at .table .now) (c .before .before .before .before .before .rect-at .result) _ (at .job .now) (at .at + QUERY_HEAD) _ n (read .last .1 .1 .0) (drop n (replicate TOO_MANY 0)) (at .answer .now) _ (c .before .before .before .before .before .rect-at .ensures) (c .before .before .before .before .before .before .before .before .before .least .ensures ∙ ap (λ k. min k TOO_MANY) (c .before .before .before .before .before .before .before .before .before .before .word-at .ensures)) (cut n (omega arith) ∙ sym (read .kept .1 .1 .0)) (read .ensures ∙ ap (clausesAt (at .job .now) (at .at + QUERY_HEAD)) (sym (cut n (omega arith)))) (c .before .before .query-sound .ensures)
+returns c = let at = c .before .before .before .before .before .before .before .before .before .before .before .before .before .before .args in
+    let n = c .before .before .before .before .before .before .before .before .before .least .result in
+    let read = c .before .before .before .before .before .before .before .read-clauses in
+    let rect = c .before .before .before .before .before .rect-at in let least = c .before .before .before .before .before .before .before .before .before in
+    asked-all (at .table .now) (rect .result) _ (at .job .now) (at .at + QUERY_HEAD) _ n (read .last .1 .1 .0) (drop n (replicate TOO_MANY 0)) (at .answer .now) _
+    (rect .ensures) (least .least .ensures ∙ ap (λ k. min k TOO_MANY) (least .before .word-at .ensures)) (cut n (omega arith) ∙ sym (read .kept .1 .1 .0))
+    (read .ensures ∙ ap (clausesAt (at .job .now) (at .at + QUERY_HEAD)) (sym (cut n (omega arith)))) (c .before .before .query-sound .ensures)
 
 pub ask-spec : {M : Type 1} → statement M
 ask-spec =

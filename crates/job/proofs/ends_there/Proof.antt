@@ -24,7 +24,8 @@ mul-if1 : tie.Need-mul-if1 Inv-loop μ-loop
 mul-if1 c = search needs
 
 returns : tie.Need-returns Inv-loop μ-loop
-returns c = past-end (c .before .before .before .before .args .bytes .now) (c .before .before .loop .at) (c .before .before .loop .counter) (c .before .before .before .before .args .queries) (c .before .before .loop .inv .1) (c .before .loop-test .taken) (c .if1 .taken)
+returns c = let at = c .before .before .before .before .args in let turn = c .before .before .loop in
+    past-end (at .bytes .now) (turn .at) (turn .counter) (at .queries) (turn .inv .1) (c .before .loop-test .taken) (c .if1 .taken)
 
 add-at : tie.Need-add-at Inv-loop μ-loop
 add-at c = search needs
@@ -52,13 +53,15 @@ loop-less c = search needs
 
 loop-again : tie.Need-loop-again Inv-loop μ-loop
 loop-again c = let at = c .before .before .before .before .before .args in
-    (search needs, next-place (at .bytes .now) (c .before .before .before .loop .at) (c .before .before .before .loop .counter) (c .word-at .result) (c .before .before .before .loop .inv .1) (c .word-at .ensures), omega arith)
+    let turn = c .before .before .before .loop in
+    (search needs, next-place (at .bytes .now) (turn .at) (turn .counter) (c .word-at .result) (turn .inv .1) (c .word-at .ensures), omega arith)
 
 mul-result : tie.Need-mul-result Inv-loop μ-loop
 mul-result c = search needs
 
 returns-2 : tie.Need-returns-2 Inv-loop μ-loop
-returns-2 c = at-end (c .before .before .before .args .bytes .now) (c .before .loop .at) (c .before .loop .counter) (c .before .before .before .args .queries) (c .before .loop .inv .1) (c .before .loop .inv .0) (c .loop-test .left)
+returns-2 c = let at = c .before .before .before .args in let turn = c .before .loop in
+    at-end (at .bytes .now) (turn .at) (turn .counter) (at .queries) (turn .inv .1) (turn .inv .0) (c .loop-test .left)
 
 pub ends-there-spec : {M : Type 1} → statement M
 ends-there-spec =

@@ -40,7 +40,8 @@ bad-shape-requires-3 : tie.Need-bad-shape-requires-3
 bad-shape-requires-3 c κs = search needs
 
 returns-3 : tie.Need-returns-3
-returns-3 c = c .bad-shape3 .ensures ∙ no-count (c .before .before .before .before .before .before .args .bytes .now) (c .before .before .word-at .result) (c .before .before .word-at .ensures) (c .before .if3 .taken)
+returns-3 c = let count = c .before .before .word-at in
+    c .bad-shape3 .ensures ∙ no-count (c .before .before .before .before .before .before .args .bytes .now) (count .result) (count .ensures) (c .before .if3 .taken)
 
 word-at-requires-2 : tie.Need-word-at-requires-2
 word-at-requires-2 c κs = search needs
@@ -52,19 +53,25 @@ add-ends-there : tie.Need-add-ends-there
 add-ends-there c = search needs
 
 ends-there-requires : tie.Need-ends-there-requires
-ends-there-requires c κs = (c .before .before .before .before .if1 .left, start-is (c .before .before .before .before .before .before .args .bytes .now) (c .before .before .word-at .result) (c .before .before .word-at .ensures), c .before .if3 .left)
+ends-there-requires c κs = let count = c .before .before .word-at in
+    (c .before .before .before .before .if1 .left, start-is (c .before .before .before .before .before .before .args .bytes .now) (count .result) (count .ensures), c .before .if3 .left)
 
 add-t11 : tie.Need-add-t11
 add-t11 c = search needs
 
 returns-4 : tie.Need-returns-4
-returns-4 c = let b = c .before .before .before .before .before .before .before .before .args .bytes .now in exact b (c .before .before .before .before .word-at .result) (c .before .before .word-at2 .result) (c .before .before .before .before .before .before .if1 .left) (c .before .before .before .before .word-at .ensures) (count-is b (c .before .before .before .before .word-at .result) (c .before .before .word-at2 .result) (c .before .before .before .before .word-at .ensures) (c .before .before .word-at2 .ensures)) (sym (c .before .ends-there .ensures) ∙ c .if4 .taken)
+returns-4 c = let b = c .before .before .before .before .before .before .before .before .args .bytes .now in
+    let pieces = c .before .before .before .before .word-at in let queries = c .before .before .word-at2 in
+    exact b (pieces .result) (queries .result) (c .before .before .before .before .before .before .if1 .left) (pieces .ensures)
+    (count-is b (pieces .result) (queries .result) (pieces .ensures) (queries .ensures)) (sym (c .before .ends-there .ensures) ∙ c .if4 .taken)
 
 bad-shape-requires-4 : tie.Need-bad-shape-requires-4
 bad-shape-requires-4 c κs = search needs
 
 returns-5 : tie.Need-returns-5
-returns-5 c = let b = c .before .before .before .before .before .before .before .before .before .args .bytes .now in let q = count-is b (c .before .before .before .before .before .word-at .result) (c .before .before .before .word-at2 .result) (c .before .before .before .before .before .word-at .ensures) (c .before .before .before .word-at2 .ensures) in
+returns-5 c = let b = c .before .before .before .before .before .before .before .before .before .args .bytes .now in
+    let pieces = c .before .before .before .before .before .word-at in let queries = c .before .before .before .word-at2 in
+    let q = count-is b (pieces .result) (queries .result) (pieces .ensures) (queries .ensures) in
     c .bad-shape4 .ensures ∙ not-exact b (rw q at (sym (c .before .if4 .left) ∙ c .before .before .ends-there .ensures))
 
 pub shape-of-spec : {M : Type 1} → statement M

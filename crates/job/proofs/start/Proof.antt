@@ -11,7 +11,8 @@ same-length : tie.Need-same-length
 same-length c = search needs
 
 returns : tie.Need-returns
-returns c = let at = c .before .before .before .before .before in emptied (at .args .table .now) (c .before .before .empty .last .0) (c .before .before .empty .result) (at .pre) (c .before .before .empty .ensures)
+returns c = let at = c .before .before .before .before .before in
+    emptied (at .args .table .now) (c .before .before .empty .last .0) (c .before .before .empty .result) (at .pre) (c .before .before .empty .ensures)
 
 pub start-spec : {M : Type 1} → statement M
 start-spec = tie.close (tie.spec empty-requires same-length returns)

@@ -30,19 +30,23 @@ read-some-requires : tie.Need-read-some-requires Inv-loop μ-loop
 read-some-requires c κs = search needs
 
 same-length : tie.Need-same-length Inv-loop μ-loop
-same-length c = let at = c .before .before .before .before .before .before .loop in same-len-mid (at .n) (length (at .bytes) - at .n) (at .bytes) (c .before .before .before .read-some .last .1 .0) (c .before .before .before .read-some .kept .1 .0) ∙ at .inv .1
+same-length c = let at = c .before .before .before .before .before .before .loop in
+    same-len-mid (at .n) (length (at .bytes) - at .n) (at .bytes) (c .before .before .before .read-some .last .1 .0) (c .before .before .before .read-some .kept .1 .0) ∙ at .inv .1
 
 returns : tie.Need-returns Inv-loop μ-loop
-returns c = let at = c .before .before .before .before .before .before .loop in omega (arith, same-len-mid (at .n) (length (at .bytes) - at .n) (at .bytes) (c .before .before .before .read-some .last .1 .0) (c .before .before .before .read-some .kept .1 .0), at .inv .0)
+returns c = let at = c .before .before .before .before .before .before .loop in
+    omega (arith, same-len-mid (at .n) (length (at .bytes) - at .n) (at .bytes) (c .before .before .before .read-some .last .1 .0) (c .before .before .before .read-some .kept .1 .0), at .inv .0)
 
 add-n : tie.Need-add-n Inv-loop μ-loop
-add-n c = let at = c .before .before .before .before .before .before .loop in omega (arith, c .before .before .before .read-some .kept .1 .0, mid-len (at .n) (length (at .bytes)) (at .bytes) (omega arith), at .inv .0)
+add-n c = let at = c .before .before .before .before .before .before .loop in
+    omega (arith, c .before .before .before .read-some .kept .1 .0, mid-len (at .n) (length (at .bytes)) (at .bytes) (omega arith), at .inv .0)
 
 loop-less : tie.Need-loop-less Inv-loop μ-loop
 loop-less c = let at = c .before .before .before .before .before .before .loop in omega arith
 
 loop-again : tie.Need-loop-again Inv-loop μ-loop
-loop-again c = let at = c .before .before .before .before .before .before .loop in let back = same-len-mid (at .n) (length (at .bytes) - at .n) (at .bytes) (c .before .before .before .read-some .last .1 .0) (c .before .before .before .read-some .kept .1 .0) in
+loop-again c = let at = c .before .before .before .before .before .before .loop in
+    let back = same-len-mid (at .n) (length (at .bytes) - at .n) (at .bytes) (c .before .before .before .read-some .last .1 .0) (c .before .before .before .read-some .kept .1 .0) in
     (omega (arith, back, c .before .before .before .read-some .kept .1 .0, mid-len (at .n) (length (at .bytes)) (at .bytes) (omega arith), at .inv .0), back ∙ at .inv .1)
 
 same-length-2 : tie.Need-same-length-2 Inv-loop μ-loop

@@ -2,7 +2,7 @@
 use borrow.Author.Needs.{needs}
 use native.Mathlib.Omega.{arith}
 use Rattle.job.proofs.Decimal.{length-one, length-more, tenth}
-use Rattle.job.proofs.Writing.{put-one, put-more}
+use Rattle.job.proofs.Writing.{ends, put-one, put-more}
 use Prim.Native.Nat.{ℕ, _<_}
 use borrow.Fn.Kinds.{In}
 use borrow.Fn.PlainCycle.{Measures, is, falls, and}
@@ -40,25 +40,32 @@ put-decimal-same-length : (t : ℕ) → put-decimal-lts.Need-same-length (put-de
 put-decimal-same-length t c = search needs
 
 put-decimal-returns : (t : ℕ) → put-decimal-lts.Need-returns (put-decimal-cs t) (put-decimal-at t) put-decimal.Post
-put-decimal-returns t c = let at = c .before .before .before in put-one (at .args .out .now) (at .args .at) (at .args .n) (c .digit .result) (c .digit .ensures) (c .before .if1 .taken) (at .pre .1)
+put-decimal-returns t c = let at = c .before .before .before in
+    put-one (at .args .out .now) (at .args .at) (at .args .n) (c .digit .result) (c .digit .ensures) (c .before .if1 .taken) (omega (arith, length-one _ (c .before .if1 .taken)))
 
 put-decimal-put-decimal-requires : (t : ℕ) → put-decimal-lts.Need-put-decimal-requires (put-decimal-cs t) (put-decimal-at t) put-decimal.Post
-put-decimal-put-decimal-requires t c κs = let at = c .before .before .before in (omega (arith, tenth (at .args .n) (c .before .if1 .left)), omega (arith, length-more (at .args .n) (c .before .if1 .left)))
+put-decimal-put-decimal-requires t c κs = let at = c .before .before .before in
+    (omega (arith, tenth (at .args .n) (c .before .if1 .left)), omega (arith, length-more (at .args .n) (c .before .if1 .left)))
 
 put-decimal-digit-requires-2 : (t : ℕ) → put-decimal-lts.Need-digit-requires-2 (put-decimal-cs t) (put-decimal-at t) put-decimal.Post
 put-decimal-digit-requires-2 t c κs = search needs
 
 put-decimal-slice-write-out-2 : (t : ℕ) → put-decimal-lts.Need-slice-write-out-2 (put-decimal-cs t) (put-decimal-at t) put-decimal.Post
-put-decimal-slice-write-out-2 t c = let at = c .before .before .before .before .before .before .before in omega (arith, length-more (at .args .n) (c .before .before .before .before .before .if1 .left))
+put-decimal-slice-write-out-2 t c = let at = c .before .before .before .before .before .before .before in
+    omega (arith, length-more (at .args .n) (c .before .before .before .before .before .if1 .left), ends (c .before .before .before .put-decimal .ensures))
 
 put-decimal-add-result-2 : (t : ℕ) → put-decimal-lts.Need-add-result-2 (put-decimal-cs t) (put-decimal-at t) put-decimal.Post
-put-decimal-add-result-2 t c = let at = c .before .before .before .before .before .before .before in omega (arith, length-more (at .args .n) (c .before .before .before .before .before .if1 .left))
+put-decimal-add-result-2 t c = let at = c .before .before .before .before .before .before .before in
+    omega (arith, length-more (at .args .n) (c .before .before .before .before .before .if1 .left), ends (c .before .before .before .put-decimal .ensures))
 
 put-decimal-same-length-2 : (t : ℕ) → put-decimal-lts.Need-same-length-2 (put-decimal-cs t) (put-decimal-at t) put-decimal.Post
 put-decimal-same-length-2 t c = search needs
 
 put-decimal-returns-2 : (t : ℕ) → put-decimal-lts.Need-returns-2 (put-decimal-cs t) (put-decimal-at t) put-decimal.Post
-put-decimal-returns-2 t c = let at = c .before .before .before .before .before .before .before in let call = c .before .before .before .put-decimal in put-more (at .args .out .now) (call .last .0) (at .args .at) (at .args .n) (call .result) (c .digit2 .result) (c .digit2 .ensures) (c .before .before .before .before .before .if1 .left) (call .ensures .0) (call .ensures .1) (call .kept .0) (at .pre .1)
+put-decimal-returns-2 t c = let at = c .before .before .before .before .before .before .before in let call = c .before .before .before .put-decimal in
+    let more = c .before .before .before .before .before .if1 .left in
+    put-more (at .args .out .now) (call .last .0) (at .args .at) (at .args .n) (call .result) (c .digit2 .result) (c .digit2 .ensures) more
+    (omega arith) (omega (arith, length-more (at .args .n) more, ends (call .ensures), call .kept .0)) (call .ensures)
 
 pub +put-decimal-spec : {M : Type 1} → statement M
 +put-decimal-spec = close μ-put-decimal λ t. put-decimal-lts.spec (put-decimal-cs t)

@@ -1,10 +1,11 @@
 -- The space, and the decimal behind it.
 use borrow.Author.Needs.{needs}
-use native.Mathlib.Omega.{arith}
-use Rattle.job.specs.Lines.{SPACE}
-use Rattle.job.proofs.Writing.{put-after}
 use mathlib.Core.Path.{_∙_}
-use lib.ListN.{length-set}
+use mathlib.Core.List.{[], _∷_}
+use native.Mathlib.Omega.{arith}
+use lib.ListN.{set, length-set}
+use Rattle.job.specs.Lines.{SPACE, decimal}
+use Rattle.job.proofs.Writing.{put-byte, put-then}
 use Rattle.job.proofs.lines.put_field.Statement.{statement}
 use Rattle.job.proofs.lines.put_field.Tie as tie
 
@@ -21,7 +22,9 @@ same-length : tie.Need-same-length
 same-length c = c .before .before .put-decimal .kept .0 ∙ simp length-set
 
 returns : tie.Need-returns
-returns c = let at = c .before .before .before .before .before in let call = c .before .before .put-decimal in (search needs, put-after (at .args .out .now) (at .args .at) SPACE _ _ (omega arith) (call .ensures .1))
+returns c = let at = c .before .before .before .before .before in let out = at .args .out .now in
+    put-then out (at .args .at) (omega arith) _ (set out (at .args .at) SPACE) (SPACE ∷ []) (decimal (at .args .n)) _
+    (put-byte out (at .args .at) SPACE (omega arith)) (c .before .before .put-decimal .ensures)
 
 pub put-field-spec : {M : Type 1} → statement M
 put-field-spec =

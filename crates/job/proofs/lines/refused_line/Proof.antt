@@ -20,7 +20,7 @@ same-length c = search needs
 
 returns : tie.Need-returns
 returns c = let at = c .before .before .before .before .before .args in let head = c .before .before .put-head in
-    (omega (arith, head .kept .0), line-end (head .last .0) (head .result) (at .letter) (at .position ∷ at .refusal ∷ []) (omega (arith, head .kept .0)) (head .ensures .1))
+    (omega (arith, head .kept .0), line-end (at .out .now) (head .last .0) (head .result) (at .letter) (at .position ∷ at .refusal ∷ []) (omega (arith, head .kept .0)) (head .ensures .1))
 
 pub refused-line-spec : {M : Type 1} → statement M
 refused-line-spec =

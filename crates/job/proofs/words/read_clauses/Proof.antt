@@ -39,13 +39,17 @@ loop-less : tie.Need-loop-less Inv-loop μ-loop
 loop-less c = search needs
 
 loop-again : tie.Need-loop-again Inv-loop μ-loop
-loop-again c = let at = c .before .before in (search needs, simp length-set (at .loop .inv .1), more-clauses (at .before .before .before .args .bytes .now) (at .loop .clauses) (at .before .before .before .args .at) (at .loop .i) (c .clause-at .result) (search needs) (c .clause-at .ensures) (at .loop .inv .2))
+loop-again c = let at = c .before .before in
+    let turn = at .loop in let first = at .before .before .before .args in
+    (search needs, simp length-set (turn .inv .1), more-clauses (first .bytes .now) (turn .clauses) (first .at) (turn .i) (c .clause-at .result) (search needs) (c .clause-at .ensures) (turn .inv .2))
 
 same-length : tie.Need-same-length Inv-loop μ-loop
 same-length c = search needs
 
 returns : tie.Need-returns Inv-loop μ-loop
-returns c = let at = c .before in all-clauses (at .before .before .before .args .bytes .now) (at .loop .clauses) (at .before .before .before .args .at) (at .loop .i) (length (at .before .before .before .args .clauses .now)) (c .loop-test .left) (at .loop .inv .0) (at .loop .inv .1) (at .loop .inv .2)
+returns c = let at = c .before in
+    let turn = at .loop in let first = at .before .before .before .args in
+    all-clauses (first .bytes .now) (turn .clauses) (first .at) (turn .i) (length (first .clauses .now)) (c .loop-test .left) (turn .inv .0) (turn .inv .1) (turn .inv .2)
 
 pub read-clauses-spec : {M : Type 1} → statement M
 read-clauses-spec =
