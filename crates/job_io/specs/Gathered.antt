@@ -33,7 +33,8 @@ unfoldable pub heldAtEnd : ℕ → List ℕ → List ℕ
 unfolding heldQueries wellFormed badJob
 heldAtEnd size b = cond (wellFormed b) (heldQueries size b) badJob
 
--- the text is what was written before, and what the buffer holds
+-- The text ends with what the buffer holds; `sent` is some list, all of the text before that. This is proved. That the bytes of `sent`
+-- reached the descriptor, in this order and once, no contract can state: it is run.
 pub record Gathered (text buffer : List ℕ) : Type 0 where
   pub sent : List ℕ
   pub whole : text ≡ sent ++ buffer

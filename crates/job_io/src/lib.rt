@@ -15,8 +15,9 @@ ghost use Rattle.job.specs.Words.{pieceCount, queryCount, queryStart, wellForme
 ghost use Rattle.job.specs.Steps.{tableAt};
 ghost use Rattle.job_io.specs.Gathered.{kept, heldPieces, heldQueries, heldAtEnd, Gathered};
 
-// Lines are gathered here, so that a write has many of them.
-const BUFFER_BYTES: usize = 65_536;
+// Lines are gathered here, so that a write has many of them. The pieces of a job print at most some 29,000 bytes: a buffer of less is
+// written between their lines as well as between those of the queries, in jobs that can be given, and runs can show both.
+const BUFFER_BYTES: usize = 16_384;
 
 const READ_BYTES: usize = JOB_BYTES + 1;
 
@@ -54,21 +55,34 @@ fn read_all(from: i32, bytes: &mut [u8]) -> usize
     n
 }
 
+// Writes what is gathered. Nothing else here writes.
+fn flush(to: i32, out: &[u8], used: usize) -> bool
+    requires { ⌜ used ≤ length (now out) ⌝ }
+{
+    io::write_all(to, &out[..used])
+}
+
 // Writes what is gathered where the next line might not fit behind it.
 fn make_room(to: i32, out: &[u8], used: usize) -> Written
     requires { ⌜ (used ≤ length (now out)) × (LINE_BYTES ≤ length (now out)) ⌝ }
-    ensures { λ r. ⌜ (r .used + LINE_BYTES ≤ length (now (out .entry))) × (take (r .used) (now (out .entry)) ≡ kept (length (now (out .entry))) (take used (now (out .entry)))) ⌝ }
+    ensures room { λ r. ⌜ r .used + LINE_BYTES ≤ length (now (out .entry)) ⌝ }
+    ensures front { λ r. ⌜ take (r .used) (now (out .entry)) ≡ kept (length (now (out .entry))) (take used (now (out .entry))) ⌝ }
 {
     if used <= out.len() - LINE_BYTES {
         return Written { good: true, used };
     }
-    let good = io::write_all(to, &out[..used]);
+    let good = flush(to, out, used);
     Written { good, used: 0 }
 }
 
 fn place_pieces(to: i32, bytes: &[u8], pieces: usize, table: &mut [u32], out: &mut [u8]) -> Written
-    requires { ⌜ T (wellFormed (now bytes)) × (pieces ≡ pieceCount (now bytes)) × (now table ≡ emptyWords) × (LINE_BYTES ≤ length (now out)) ⌝ }
-    ensures { λ r. ⌜ (r .used ≤ length (now (out .entry))) × (r .good ≡ true → (now (table .exit) ≡ tableAt (now (bytes .entry)) (pieceCount (now (bytes .entry)))) × (take (r .used) (now (out .exit)) ≡ heldPieces (length (now (out .entry))) (now (bytes .entry)))) ⌝ }
+    requires { ⌜ T (wellFormed (now bytes)) × (pieces ≡ pieceCount (now bytes)) × (now table ≡ emptyWords)
+        × (LINE_BYTES ≤ length (now out)) ⌝ }
+    ensures within { λ r. ⌜ r .used ≤ length (now (out .entry)) ⌝ }
+    ensures placed { λ r.
+        ⌜ (r .good ≡ true
+        → (now (table .exit) ≡ tableAt (now (bytes .entry)) (pieceCount (now (bytes .entry))))
+        × (take (r .used) (now (out .exit)) ≡ heldPieces (length (now (out .entry))) (now (bytes .entry)))) ⌝ }
 {
     let mut used: usize = 0;
     for i in 0..pieces {
@@ -92,8 +106,12 @@ fn answer_queries(
     out: &mut [u8],
     gathered: usize,
 ) -> Written
-    requires { ⌜ T (wellFormed (now bytes)) × (queries ≡ queryCount (now bytes)) × (start ≡ queryStart (now bytes) 0) × (now table ≡ tableAt (now bytes) (pieceCount (now bytes))) × (length (now answer) ≡ PIECES) × (LINE_BYTES ≤ length (now out)) × (gathered ≤ length (now out)) × (take gathered (now out) ≡ heldPieces (length (now out)) (now bytes)) ⌝ }
-    ensures { λ r. ⌜ (r .used ≤ length (now (out .entry))) × (r .good ≡ true → take (r .used) (now (out .exit)) ≡ heldQueries (length (now (out .entry))) (now (bytes .entry))) ⌝ }
+    requires { ⌜ T (wellFormed (now bytes)) × (queries ≡ queryCount (now bytes)) × (start ≡ queryStart (now bytes) 0)
+        × (now table ≡ tableAt (now bytes) (pieceCount (now bytes))) × (length (now answer) ≡ PIECES) × (LINE_BYTES ≤ length (now out))
+        × (gathered ≤ length (now out)) × (take gathered (now out) ≡ heldPieces (length (now out)) (now bytes)) ⌝ }
+    ensures within { λ r. ⌜ r .used ≤ length (now (out .entry)) ⌝ }
+    ensures answered { λ r.
+        ⌜ (r .good ≡ true → take (r .used) (now (out .exit)) ≡ heldQueries (length (now (out .entry))) (now (bytes .entry))) ⌝ }
 {
     let mut used = gathered;
     let mut at = start;
@@ -119,7 +137,11 @@ fn answer_job(
     out: &mut [u8],
 ) -> Written
     requires { ⌜ (length (now table) ≡ TABLE_WORDS) × (length (now answer) ≡ PIECES) × (LINE_BYTES ≤ length (now out)) ⌝ }
-    ensures { λ r. ⌜ (r .used ≤ length (now (out .entry))) × (r .good ≡ true → (take (r .used) (now (out .exit)) ≡ heldAtEnd (length (now (out .entry))) (now (bytes .entry))) × Gathered (output (now (bytes .entry))) (take (r .used) (now (out .exit)))) ⌝ }
+    ensures within { λ r. ⌜ r .used ≤ length (now (out .entry)) ⌝ }
+    ensures gathered { λ r.
+        ⌜ (r .good ≡ true
+        → (take (r .used) (now (out .exit)) ≡ heldAtEnd (length (now (out .entry))) (now (bytes .entry)))
+        × Gathered (output (now (bytes .entry))) (take (r .used) (now (out .exit)))) ⌝ }
 {
     let shape = job::shape_of(bytes);
     if !shape.good {
@@ -154,7 +176,6 @@ pub fn run(from: i32, to: i32) {
     let n = read_all(from, &mut bytes);
     let written = answer_job(to, &bytes[..n], &mut table, &mut answer, &mut out);
     if written.good {
-        let used = written.used;
-        io::write_all(to, &out[..used]);
+        flush(to, &out, written.used);
     }
 }

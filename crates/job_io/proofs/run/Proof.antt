@@ -1,7 +1,6 @@
--- What was read is the front of the array, and so is what is still to be written.
+-- What was read is the front of the array.
 use borrow.Author.Needs.{needs}
 use mathlib.Core.Path.{sym}
-use native.Mathlib.Omega.{arith}
 use lib.Seq.{length-take-le}
 use Rattle.job_io.proofs.run.Statement.{statement}
 use Rattle.job_io.proofs.run.Tie as tie
@@ -30,14 +29,11 @@ slice-aggregate-answer-job-4 c = search needs
 answer-job-requires : tie.Need-answer-job-requires
 answer-job-requires c κs = search needs
 
-array-share-prefix-out : tie.Need-array-share-prefix-out
-array-share-prefix-out c = search needs
+slice-aggregate-flush : tie.Need-slice-aggregate-flush
+slice-aggregate-flush c = search needs
 
-slice-aggregate-write-all : tie.Need-slice-aggregate-write-all
-slice-aggregate-write-all c = let call = c .before .before .before .before .before .answer-job in sym (length-take-le (call .result .used) (call .last .1 .1 .1 .1 .0) (omega (arith, call .kept .1 .1 .1 .1 .0, call .ensures .0)))
-
-write-all-requires : tie.Need-write-all-requires
-write-all-requires c κs = search needs
+flush-requires : tie.Need-flush-requires
+flush-requires c κs = search needs
 
 returns : tie.Need-returns
 returns c = search needs
@@ -57,8 +53,7 @@ run-spec =
     slice-aggregate-answer-job-3
     slice-aggregate-answer-job-4
     answer-job-requires
-    array-share-prefix-out
-    slice-aggregate-write-all
-    write-all-requires
+    slice-aggregate-flush
+    flush-requires
     returns
     returns-2)
