@@ -1,6 +1,6 @@
--- The relation tables of the source, held to the code lists of each relation by a computed test for each table.
+-- The relation tables that the source reads, held to the code lists of each relation by a computed test for each table.
 use mathlib.Core.Bool.{Bool, true, _&&_}
-use mathlib.Core.List.{List, [], _∷_}
+use mathlib.Core.List.{List, map}
 use mathlib.Core.Path.{_≡_, refl, sym, ap, ap₂, _∙_}
 use Prim.Native.Nat.{ℕ, _+_, _-_, _≤_, _<_}
 use native.Mathlib.Omega.{arith}
@@ -9,23 +9,28 @@ use lib.ListN.{getD}
 use borrow.Author.Tests.{le-ltb, eqb-true}
 use Rattle.relations.specs.declared.CodeSets.{CodeSets}
 use Rattle.relations.specs.Sets.{packed}
-use Rattle.relations.specs.Relation.{codesOf, maskOf, setsOf}
+use Rattle.relations.specs.Axis.{turned}
+use Rattle.relations.specs.Relation.{topological, northY, northX, codesOf, maskOf, setsOf}
 use Rattle.relations.proofs.Tests.{allBelow, all-at, and-left, and-right}
 
+-- by number and by kind, the masks of the code lists; the source has the same numbers
 abbrev pub topo : List ℕ
-topo = 8191 ∷ 4094 ∷ 2044 ∷ 864 ∷ 256 ∷ 64 ∷ 216 ∷ 16 ∷ []
+topo = map maskOf topological
 
 abbrev pub along : List ℕ
-along = 1 ∷ 4 ∷ 1 ∷ 4 ∷ 1 ∷ 4 ∷ 2 ∷ 7 ∷ []
+along = map maskOf northY
 
 abbrev pub across : List ℕ
-across = 8191 ∷ 8191 ∷ 256 ∷ 256 ∷ 1 ∷ 7 ∷ 8191 ∷ 8191 ∷ []
+across = map maskOf northX
+
+abbrev maskTurned : List ℕ → ℕ
+maskTurned codes = maskOf (map turned codes)
 
 abbrev pub along-turned : List ℕ
-along-turned = 4096 ∷ 1024 ∷ 4096 ∷ 1024 ∷ 4096 ∷ 1024 ∷ 2048 ∷ 7168 ∷ []
+along-turned = map maskTurned northY
 
 abbrev pub across-turned : List ℕ
-across-turned = 8191 ∷ 8191 ∷ 256 ∷ 256 ∷ 4096 ∷ 7168 ∷ 8191 ∷ 8191 ∷ []
+across-turned = map maskTurned northX
 
 abbrev pub pair : ℕ → ℕ → CodeSets
 pair r c = record { rows = r; cols = c }

@@ -1,6 +1,8 @@
--- Each arm reads the tables that the computed tests of `Tables` hold to the code lists.
+-- Each arm reads a table of the source: its masks are those of the code lists, and `Tables` says which lists a relation has.
 use native.Mathlib.Omega.{arith}
 use borrow.Author.Needs.{needs}
+use Rattle.relations.specs.Sets.{packed}
+use Rattle.relations.specs.Relation.{maskOf}
 use Rattle.relations.proofs.Tables.{topo-sets, north-sets, east-sets, south-sets, west-sets, no-sets}
 use Rattle.relations.proofs.relation_sets.Statement.{statement}
 use Rattle.relations.proofs.relation_sets.Tie as tie
@@ -66,18 +68,23 @@ array-read-t61 : tie.Need-array-read-t61
 array-read-t61 c = search needs
 
 returns : tie.Need-returns
+unfolding maskOf packed
 returns c = topo-sets (c .before .args .t) (omega arith)
 
 returns-2 : tie.Need-returns-2
+unfolding maskOf packed
 returns-2 c = north-sets (c .before .before .args .t) (omega arith) (omega arith)
 
 returns-3 : tie.Need-returns-3
+unfolding maskOf packed
 returns-3 c = east-sets (c .before .before .before .args .t) (omega arith) (omega arith)
 
 returns-4 : tie.Need-returns-4
+unfolding maskOf packed
 returns-4 c = south-sets (c .before .before .before .before .args .t) (omega arith) (omega arith)
 
 returns-5 : tie.Need-returns-5
+unfolding maskOf packed
 returns-5 c = west-sets (c .before .before .before .before .before .args .t) (omega arith) (omega arith)
 
 returns-6 : tie.Need-returns-6
