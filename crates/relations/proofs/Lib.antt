@@ -1,5 +1,6 @@
 -- The laws. Callers cite `Sides` (codes), `Turned`, `Quarter` and `Pages` (the quarter-unit rule, the page and leaf tests),
 -- `Answer` (refusals and rows of an accepted query), `Lowest` (the ones of a word, one after the other).
+-- `Claimed` proves what `Claims` states.
 pub mod Tests
 pub mod Bits
 pub mod Lowest
@@ -15,3 +16,6 @@ pub mod Pages
 pub mod Near
 pub mod Whole
 pub mod Examples
+pub mod Members
+pub mod Swapped
+pub mod Claimed
