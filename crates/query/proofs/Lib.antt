@@ -1,4 +1,4 @@
--- The laws that the proofs of `query` cite; `Demand2` has what is owed of a query.
+-- The laws that the proofs of `query` cite; `Demand2` has what is owed of a query, `Claimed` what else is stated.
 pub mod Reading
 pub mod Concat
 pub mod Bits
@@ -17,3 +17,4 @@ pub mod Whole
 pub mod Parents
 pub mod Accepted
 pub mod Demand2
+pub mod Claimed
