@@ -13,25 +13,18 @@ use Rattle.pages.specs.Sizes.{PIECES}
 use Rattle.pages.specs.Lists.{allOf}
 use Rattle.pages.specs.Rectangles.{rectOf, valid}
 use Rattle.history.specs.Book.{Slot, Call, Book, blank, stands, isBlank, writes, feed, fed, bookAfter, firstValid}
+use Rattle.history.specs.Claims.{four}
 
--- Computed examples, before any law: of four place calls the second for 5, the one for 1,024 and the one with x1 = x2 write nothing.
-four : List Call
-four =
-    record { number = 5; rect = rectOf 0 0 1 1 }
-    ∷ record { number = 5; rect = rectOf 0 0 2 2 }
-    ∷ record { number = 1_024; rect = rectOf 0 0 3 3 }
-    ∷ record { number = 6; rect = rectOf 3 3 3 4 }
-    ∷ []
-
-first-stays : bookAfter four 5 ≡ stands (rectOf 0 0 1 1)
+-- computed examples, before any law
+pub first-stays : bookAfter four 5 ≡ stands (rectOf 0 0 1 1)
 unfolding four bookAfter
 first-stays = refl
 
-above-1023 : bookAfter four 1_024 ≡ blank
+pub above-1023 : bookAfter four 1_024 ≡ blank
 unfolding four bookAfter
 above-1023 = refl
 
-not-valid : bookAfter four 6 ≡ blank
+pub not-valid : bookAfter four 6 ≡ blank
 unfolding four bookAfter
 not-valid = refl
 

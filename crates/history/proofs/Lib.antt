@@ -6,3 +6,4 @@ pub mod Listed
 pub mod Equal
 pub mod Demand3
 pub mod Replaying
+pub mod Claimed
