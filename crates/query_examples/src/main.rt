@@ -222,6 +222,24 @@ fn ask_tables(nine: &[u32], three: &[u32], zeros: &[u32], empty: &[u32], answer:
     ask_rooms(nine, empty, answer);
 }
 
+// The length of the slice, the count, and the part that the front call hands back.
+fn print_front(answer: &[u16], count: usize) {
+    text(b"front");
+    number(answer.len() as u64);
+    number(count as u64);
+    print_words(query::front(answer, count));
+    text(b"\n");
+}
+
+// A count below the length, at it, above it, and one that would be 1 in 32 bits.
+fn print_fronts() {
+    let answer = [3u16, 5, 8];
+    print_front(&answer, 2);
+    print_front(&answer, 3);
+    print_front(&answer, 4);
+    print_front(&answer, 4_294_967_297);
+}
+
 fn main() {
     let mut answer = [0u16; ANSWER_WORDS];
     let zeros = [0u32; pages::TABLE_WORDS];
@@ -232,4 +250,5 @@ fn main() {
     fill(&mut nine, &NINE_PIECES);
     fill(&mut three, &THREE_LEVELS);
     ask_tables(&nine, &three, &zeros, &empty, &mut answer);
+    print_fronts();
 }
