@@ -12,10 +12,12 @@
 //! anew, at the x that is given. Draws are made in the order in which they are
 //! written below.
 
+use crate::lines::each;
 use model::pages::{entries, page_count};
 use model::random::Lcg;
 use model::tables::Piece;
 use model::Rect;
+use std::fmt;
 
 /// A run of place calls from the empty table.
 pub struct Run {
@@ -189,6 +191,23 @@ fn refused() -> Vec<Piece> {
 pub struct Question {
     pub reference: Rect,
     pub clauses: Vec<u64>,
+}
+
+/// ` x1 y1 x2 y2 COUNT CLAUSE..`
+impl fmt::Display for Question {
+    fn fmt(&self, f: &mut fmt::Formatter<'_>) -> fmt::Result {
+        let Rect { x1, y1, x2, y2 } = self.reference;
+        write!(f, " {x1} {y1} {x2} {y2} {}", self.clauses.len())?;
+        f.write_str(&each(&self.clauses))
+    }
+}
+
+/// ""Equal" to (80, 0, 85, 5)", asked of the nine pieces.
+pub fn example() -> Question {
+    Question {
+        reference: Rect::new(80, 0, 85, 5),
+        clauses: vec![1 << 5],
+    }
 }
 
 /// The questions q = 0, 1, .. count - 1 that are asked of a table, from x = 5

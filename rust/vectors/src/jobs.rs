@@ -3,9 +3,13 @@
 use crate::formulas::{questions, RUNS};
 use model::tables::{placed, Piece};
 use model::Rect;
+use std::path::Path;
+
+/// A reference and clauses.
+pub type Query = (Rect, Vec<u64>);
 
 /// A job's words, from its pieces and queries.
-fn words(pieces: &[Piece], queries: &[(Rect, Vec<u64>)]) -> Vec<u32> {
+pub fn words(pieces: &[Piece], queries: &[Query]) -> Vec<u32> {
     let mut words = vec![pieces.len() as u32];
     for (number, r) in pieces {
         words.extend([*number, r.x1, r.y1, r.x2, r.y2]);
@@ -20,11 +24,12 @@ fn words(pieces: &[Piece], queries: &[(Rect, Vec<u64>)]) -> Vec<u32> {
     words
 }
 
-fn bytes(words: &[u32]) -> Vec<u8> {
+pub fn bytes(words: &[u32]) -> Vec<u8> {
     words.iter().flat_map(|word| word.to_le_bytes()).collect()
 }
 
-fn all() -> Vec<(String, Vec<u8>)> {
+/// All jobs by their names.
+pub fn all() -> Vec<(String, Vec<u8>)> {
     let mut jobs: Vec<(String, Vec<u8>)> = small()
         .into_iter()
         .map(|(name, words)| (name.to_string(), bytes(&words)))
@@ -103,7 +108,7 @@ fn run_job(name: &str) -> Vec<u32> {
     let run = RUNS.iter().find(|run| run.name == name).expect("a run");
     let calls = (run.calls)();
     let table = placed(&calls);
-    let queries: Vec<(Rect, Vec<u64>)> = questions(&table, run.unit, 10)
+    let queries: Vec<Query> = questions(&table, run.unit, 10)
         .into_iter()
         .map(|question| (question.reference, question.clauses))
         .collect();
@@ -116,6 +121,17 @@ pub fn names() -> String {
 
 pub fn find(name: &str) -> Option<Vec<u8>> {
     all().into_iter().find(|job| job.0 == name).map(|job| job.1)
+}
+
+/// Each job's name, a file of the folder, and what the job program prints for
+/// its bytes.
+pub fn answers(folder: &Path, names: &[&str]) -> Vec<u8> {
+    let answer = |name: &&str| {
+        let bytes = std::fs::read(folder.join(name));
+        let printed = model::job(&bytes.unwrap_or_else(|error| panic!("{name}: {error}")));
+        [name.as_bytes(), b"\n", &printed].concat()
+    };
+    names.iter().flat_map(answer).collect()
 }
 
 #[cfg(test)]

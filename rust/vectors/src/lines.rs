@@ -1,9 +1,9 @@
 //! The lines that are printed.
 
-use crate::formulas::{checksum, questions, Question, Run, RUNS};
+use crate::formulas::{checksum, example, questions, Question, Run, RUNS};
 use crate::named::{self, Named};
 use model::{check as check_call, empty, front, opened_pages, place as place_call, query as ask};
-use model::{Rect, PAGES, PIECES, TABLE_WORDS};
+use model::{PAGES, PIECES, TABLE_WORDS};
 use std::fmt::Display;
 
 pub fn check() -> String {
@@ -39,17 +39,13 @@ const QUERIED: [(&str, u32); 15] = [
 ];
 
 pub fn query() -> String {
-    let example = Question {
-        reference: Rect::new(80, 0, 85, 5),
-        clauses: vec![1 << 5],
-    };
     let tables = named::all();
     let mut lines = String::new();
     for (name, unit) in QUERIED {
         let table = tables.iter().find(|table| table.name == name);
         let words = &table.expect("a sample of this name").words;
         if name == "nine" {
-            lines += &question_line(name, words, &example);
+            lines += &question_line(name, words, &example());
         }
         for question in questions(words, unit, 20) {
             lines += &question_line(name, words, &question);
@@ -63,19 +59,22 @@ fn question_line(name: &str, table: &[u32], question: &Question) -> String {
     let Question { reference, clauses } = question;
     let mut answer = [0; PIECES];
     let (refusal, hits, opened) = ask(table, *reference, clauses, &mut answer);
-    let mut pages = [0; PAGES];
-    let (_, count) = opened_pages(table, *reference, clauses, &mut pages);
-    let pages = &mut pages[..count as usize];
-    pages.sort_unstable();
-
-    let Rect { x1, y1, x2, y2 } = reference;
-    let mut line = format!("{name} {x1} {y1} {x2} {y2} {}", clauses.len());
-    line += &each(clauses);
-    line += &format!(" | {refusal} {hits} {opened} |");
+    let (_, pages) = rising_pages(table, question, &mut [0; PAGES]);
+    let mut line = format!("{name}{question} | {refusal} {hits} {opened} |");
     line += &each(front(&answer, hits as usize));
     line += " |";
-    line += &each(pages);
+    line += &each(&pages);
     line + "\n"
+}
+
+/// The refusal of the opened-pages call, and the pages rising, since "Their
+/// order is free".
+pub fn rising_pages(table: &[u32], question: &Question, answer: &mut [u16]) -> (u32, Vec<u16>) {
+    let Question { reference, clauses } = question;
+    let (refusal, count) = opened_pages(table, *reference, clauses, answer);
+    let mut pages = front(answer, count as usize).to_vec();
+    pages.sort_unstable();
+    (refusal, pages)
 }
 
 /// Numbers with one space before each.

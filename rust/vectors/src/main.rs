@@ -3,14 +3,10 @@
 
 #![forbid(unsafe_code)]
 
-mod formulas;
-mod jobs;
-mod lines;
-mod named;
-mod stored;
-
 use std::io::{self, Read, Write};
+use std::path::Path;
 use std::process::ExitCode;
+use vectors::{formulas, jobs, lines, named, queries, relations, stored};
 
 const HELP: &str = "\
 vectors check          each named table: NAME REFUSAL PIECES
@@ -26,10 +22,15 @@ vectors calls RUN      the calls of a run: NUMBER x1 y1 x2 y2
 vectors jobs           the names of the jobs
 vectors job NAME       a job's bytes
 vectors answer         what the job program prints for the bytes on standard input
+vectors answers NAME.. each file's name, and what the job program prints for its bytes:
+                       what the crate job_runs prints, in its folder data
 vectors check-input    what the crate check_examples reads (see stored.rs)
 vectors check-output   and what it prints
 vectors placing-output what the crate placing_examples prints
 vectors history-output what the crate history_examples prints
+vectors relations-output
+                       what the crate relations_examples prints
+vectors query-output   what the crate query_examples prints
 ";
 
 fn main() -> ExitCode {
@@ -59,9 +60,12 @@ fn output(words: &[&str]) -> Option<Vec<u8>> {
         ["check-output"] => stored::check_output(),
         ["placing-output"] => stored::placing_output(),
         ["history-output"] => stored::history_output(),
+        ["relations-output"] => relations::output(),
+        ["query-output"] => queries::output(),
         ["jobs"] => jobs::names(),
         ["job", name] => return jobs::find(name),
         ["answer"] => return Some(model::job(&standard_input())),
+        ["answers", ref names @ ..] => return Some(jobs::answers(Path::new("."), names)),
         ["help"] => HELP.to_string(),
         _ => return None,
     };
