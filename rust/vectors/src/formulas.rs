@@ -82,7 +82,7 @@ pub const RUNS: [Run; 10] = [
 
 /// A grid. Piece c, with x = 900 (c mod 32) and y = 700 (c / 32), stands at
 /// (x, y, x + 800, y + 600).
-fn grid(c: u32) -> Piece {
+pub fn grid(c: u32) -> Piece {
     let (x, y) = (c % 32 * 900, c / 32 * 700);
     (c, Rect::new(x, y, x + 800, y + 600))
 }

@@ -1,6 +1,6 @@
 //! Jobs: bytes for the program's standard input.
 
-use crate::formulas::{questions, RUNS};
+use crate::formulas::{grid, questions, RUNS};
 use model::tables::{placed, Piece};
 use model::Rect;
 use std::path::Path;
@@ -32,6 +32,7 @@ pub fn bytes(words: &[u32]) -> Vec<u8> {
 pub fn all() -> Vec<(String, Vec<u8>)> {
     let mut jobs: Vec<(String, Vec<u8>)> = small()
         .into_iter()
+        .chain(large())
         .map(|(name, words)| (name.to_string(), bytes(&words)))
         .collect();
     let full = bytes(&full());
@@ -103,6 +104,55 @@ fn small() -> Vec<(&'static str, Vec<u32>)> {
     ]
 }
 
+/// Jobs whose lines fill a buffer many times, named as `crates/job_runs/data`
+/// names the files that hold them.
+pub fn large() -> Vec<(&'static str, Vec<u32>)> {
+    vec![
+        ("many_refused_pieces", many_refused_pieces()),
+        ("full_listings", full_listings()),
+        ("many_refused_queries", many_refused_queries()),
+    ]
+}
+
+/// c = 0, 1, .. 3059: every twelfth stands, as piece c / 12 of the grid; the
+/// others are refused by 7, 3 and 2 in turn. Then 150 queries about the pieces
+/// of the grid in turn: every fifth asks for plain east, the others for all.
+fn many_refused_pieces() -> Vec<u32> {
+    let piece = |c: u32| match (c % 12, c % 3) {
+        (0, _) => grid(c / 12),
+        (_, 0) => (0, grid(c % 1_024).1),
+        (_, 1) => (1_024 + c, grid(c % 1_024).1),
+        _ => (c % 1_024, Rect::new(c, c, c, c + 1)),
+    };
+    let query = |q: u32| match q % 5 {
+        4 => (grid(q).1, vec![1 << 23]),
+        _ => (grid(q).1, vec![1]),
+    };
+    let pieces: Vec<Piece> = (0..3_060).map(piece).collect();
+    words(&pieces, &(0..150).map(query).collect::<Vec<Query>>())
+}
+
+/// The grid of 1,024 pieces, and 40 queries about its first ones: every tenth
+/// has no clause, the others ask for all.
+fn full_listings() -> Vec<u32> {
+    let query = |q: u32| match q % 10 {
+        9 => (grid(q).1, vec![]),
+        _ => (grid(q).1, vec![1]),
+    };
+    let pieces: Vec<Piece> = (0..1_024).map(grid).collect();
+    words(&pieces, &(0..40).map(query).collect::<Vec<Query>>())
+}
+
+/// As many queries as a job can have, all without a clause; the reference of
+/// every third is not valid either.
+fn many_refused_queries() -> Vec<u32> {
+    let query = |q: u32| match q % 3 {
+        0 => (Rect::new(q, q, q, q + 1), vec![]),
+        _ => (Rect::new(q, q, q + 1, q + 1), vec![]),
+    };
+    words(&[], &(0..3_276).map(query).collect::<Vec<Query>>())
+}
+
 /// The calls of a run and its ten queries.
 fn run_job(name: &str) -> Vec<u32> {
     let run = RUNS.iter().find(|run| run.name == name).expect("a run");
@@ -160,6 +210,22 @@ mod tests {
         assert_eq!(printed(&jobs, "65537-bytes"), "bad job\n");
         assert_eq!(printed(&jobs, "65535-bytes"), "bad job\n");
         assert!(printed(&jobs, "65536-bytes").ends_with("P 3274 7\nQ 0 1 1 5\n"));
+    }
+
+    /// What a buffer full is to their lines, these jobs are to a buffer.
+    #[test]
+    fn large_jobs_print_much() {
+        let jobs = all();
+        let of = |name, letter| {
+            let output = printed(&jobs, name);
+            let lines = output.lines().filter(|line| line.starts_with(letter));
+            lines.map(|line| line.len() + 1).sum::<usize>()
+        };
+        assert!(of("many_refused_pieces", 'P') > 24_000);
+        assert!(of("many_refused_pieces", 'Q') > 120_000);
+        assert!(of("full_listings", 'Q') > 128 * 1024);
+        assert_eq!(of("full_listings", 'R'), 4 * 7 - 1);
+        assert!(of("many_refused_queries", 'R') > 28_000);
     }
 
     #[test]

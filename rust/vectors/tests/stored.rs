@@ -11,6 +11,7 @@
 //! vectors query-output      crates/query_examples/stdout
 //! vectors answer            crates/finder/stdout, of crates/finder/stdin
 //! vectors answers NAME..    crates/job_runs/stdout, in its folder data with the names in args
+//! vectors job NAME          crates/job_runs/data/NAME, for the large jobs
 //! ```
 
 use std::fs;
@@ -93,6 +94,18 @@ fn job_runs() {
         assert!(
             is_named,
             "job_runs/data/{name} is not named in job_runs/args"
+        );
+    }
+}
+
+#[test]
+fn large_jobs() {
+    for (name, words) in jobs::large() {
+        let file = format!("job_runs/data/{name}");
+        let is_same = read(&file) == jobs::bytes(&words);
+        assert!(
+            is_same,
+            "crates/{file} is not what `vectors job {name}` prints"
         );
     }
 }
