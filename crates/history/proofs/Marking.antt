@@ -15,14 +15,14 @@ use Rattle.pages.specs.Rectangles.{valid}
 use Rattle.pages.specs.Layout.{Table, tableIn}
 use Rattle.pages.specs.Sound.{is, stored, sound}
 use Rattle.pages.proofs.Facts.{Facts}
-use Rattle.pages.proofs.Whole.{sound-in}
+use Rattle.pages.proofs.Whole.{encode-in, sound-in}
 use Rattle.placing.specs.Place.{place}
 use Rattle.placing.specs.Calls.{placedWords}
 use Rattle.placing.proofs.Placed.{place-sound, place-holds}
 use Rattle.placing.proofs.Joined.{words-open}
 use Rattle.history.specs.Book.{blank}
 use Rattle.history.specs.Replay.{Marked}
-use Rattle.history.proofs.Reached.{Reached, read-back, stored-none}
+use Rattle.history.proofs.Reached.{Reached, stored-none}
 
 pub marked-none : (w : List ℕ) → Reached w (λ n. blank) → Marked w (replicate PIECES 0)
 marked-none w R c l = getD-replicate PIECES c 0 0 l ∙ sym (stored-none w R c l)
@@ -33,7 +33,7 @@ module _ (w : List ℕ) (n : ℕ) (r : Rect) (h : T (sound w)) (v : T (valid r))
   stored-placed c =
       let t : Table = tableIn w in
       let F : Facts t = sound-in w h in
-      ap (λ x. stored x c) (ap tableIn (words-open w n r) ∙ read-back (place t n r) (drop TABLE_WORDS w) (place-sound t n r F v l free))
+      ap (λ x. stored x c) (ap tableIn (words-open w n r) ∙ encode-in (place t n r) (drop TABLE_WORDS w) (place-sound t n r F v l free))
       ∙ place-holds t n r F v l free (is c)
 
   pub marked-placed : (u marks : List ℕ) → u ≡ placedWords w n r → n < length marks → Marked w marks → Marked u (set marks n 1)

@@ -6,7 +6,6 @@ use mathlib.Core.Path.{_≡_, refl, sym, ap, _∙_, subst}
 use mathlib.Core.Bool.{Bool, true, false, not, _&&_, cond}
 use mathlib.Core.List.{List, [], _∷_, _++_}
 use lib.ListN.{length, drop, length-append}
-use lib.Seq.{take-at}
 use lib.Dec.{T, leb, ltb, eqb}
 use borrow.Author.Tests.{leb-true, leb-false, eqb-true, le-ltb, lt-ltb, eq-eqb, ne-eqb}
 use Rattle.pages.specs.declared.Rect.{Rect}
@@ -14,7 +13,7 @@ use Rattle.pages.specs.declared.Entry.{Entry}
 use Rattle.pages.specs.Sizes.{PIECES, TABLE_WORDS}
 use Rattle.pages.specs.Lists.{one, allOf, sumBelow}
 use Rattle.pages.specs.Rectangles.{entryOf, valid}
-use Rattle.pages.specs.Layout.{Table, encode, decode, tableIn}
+use Rattle.pages.specs.Layout.{Table, encode, tableIn}
 use Rattle.pages.specs.Sound.{is, stored, sound}
 use Rattle.pages.specs.Refusals.{ACCEPTED, RECTANGLE_NOT_VALID, NUMBER_TOO_LARGE, ALREADY_STANDING}
 use Rattle.pages.specs.Calls.{emptyCall}
@@ -23,7 +22,7 @@ use Rattle.pages.proofs.Below.{below-same, below-add, below-one, below-const}
 use Rattle.pages.proofs.Facts.{Facts}
 use Rattle.pages.proofs.Round.{length-encode}
 use Rattle.pages.proofs.Entries.{leaves}
-use Rattle.pages.proofs.Whole.{decode-encode, sound-encode, sound-in}
+use Rattle.pages.proofs.Whole.{sound-encode, encode-in, sound-in}
 use Rattle.pages.proofs.Zeros.{empty-accepted}
 use Rattle.pages.proofs.EmptyTable.{emptyTable, empty-facts, empty-words}
 use Rattle.placing.specs.Place.{place}
@@ -49,16 +48,11 @@ pub record Reached (w : List ℕ) (b : Book) : Type 0 where
   pub sound : T (sound w)
   pub holds : Holds (tableIn w) b
 
--- the words of a table are read back
-pub read-back : (t : Table) (rest : List ℕ) → Facts t → tableIn (encode t ++ rest) ≡ t
-unfolding tableIn
-read-back t rest F = ap decode (take-at (encode t) rest TABLE_WORDS (length-encode t)) ∙ decode-encode t F
-
 pub reached-encode : (t : Table) (rest : List ℕ) (b : Book) → Facts t → Holds t b → Reached (encode t ++ rest) b
 reached-encode t rest b F H = record {
   long = omega (arith, length-append (encode t) rest, length-encode t);
   sound = sound-encode t rest F;
-  holds = subst (λ x. Holds x b) (sym (read-back t rest F)) H;
+  holds = subst (λ x. Holds x b) (sym (encode-in t rest F)) H;
 }
 
 -- the empty table
