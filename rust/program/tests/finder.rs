@@ -8,7 +8,8 @@ fn finder() -> Program {
     let path = Path::new(env!("CARGO_MANIFEST_DIR")).join("../../target/bin/finder");
     assert!(
         path.is_file(),
-        "{} is missing: make it with `rt check finder` at the root of the project first",
+        "{} is missing: make it with `rt check finder` at the root of the project first; \
+         where that calls finder unchanged, remove target/ before it",
         path.display()
     );
     Program::new(path)
