@@ -1,7 +1,8 @@
 -- The size of each relation, and configurations that it has, as document 01 gives them.
 use mathlib.Core.Bool.{Bool, true, _&&_}
-use mathlib.Core.List.{List, [], _∷_, _++_}
+use mathlib.Core.List.{List, [], _∷_, _++_, map}
 use Prim.Native.Nat.{ℕ, suc, _^_}
+use Rattle.relations.specs.Sets.{_to_}
 use Rattle.relations.specs.Query.{admits, admittedCount}
 
 -- how many configurations relation t has
@@ -20,17 +21,22 @@ directionSizes = 13 ∷ 13 ∷ 1 ∷ 1 ∷ 1 ∷ 3 ∷ 13 ∷ 39 ∷ []
 abbrev pub relationSizes : List ℕ
 relationSizes = topologicalSizes ++ directionSizes ++ directionSizes ++ directionSizes ++ directionSizes
 
--- configurations (i, j) of each: all of a small relation, and corners of a large one
+-- Then configurations (i, j) of each: with its size they leave room for no other set of codes on y or on x.
+
+-- "both codes in": one for each of the codes
+abbrev pub both : List ℕ → List (ℕ × ℕ)
+both codes = map (λ c. (c, c)) codes
+
 abbrev pub topologicalMembers : List (List (ℕ × ℕ))
 topologicalMembers =
-    ((1, 1) ∷ (13, 13) ∷ [])
-    ∷ ((2, 2) ∷ (12, 12) ∷ [])
-    ∷ ((3, 3) ∷ (11, 11) ∷ [])
-    ∷ ((6, 6) ∷ (7, 7) ∷ (9, 9) ∷ (10, 10) ∷ [])
-    ∷ ((9, 9) ∷ [])
-    ∷ ((7, 7) ∷ [])
-    ∷ ((4, 4) ∷ (5, 5) ∷ (7, 7) ∷ (8, 8) ∷ [])
-    ∷ ((5, 5) ∷ [])
+    both (1 to 13)
+    ∷ both (2 to 12)
+    ∷ both (3 to 11)
+    ∷ both (6 ∷ 7 ∷ 9 ∷ 10 ∷ [])
+    ∷ both (9 ∷ [])
+    ∷ both (7 ∷ [])
+    ∷ both (4 ∷ 5 ∷ 7 ∷ 8 ∷ [])
+    ∷ both (5 ∷ [])
     ∷ []
 
 -- strong, weak, strong bounded, weak bounded, strong corner, weak corner, just, plain; then the same in the other directions
@@ -43,7 +49,7 @@ northMembers =
     ∷ ((1, 1) ∷ [])
     ∷ ((3, 1) ∷ (3, 2) ∷ (3, 3) ∷ [])
     ∷ ((2, 1) ∷ (2, 13) ∷ [])
-    ∷ ((1, 1) ∷ (3, 13) ∷ [])
+    ∷ ((1, 1) ∷ (2, 2) ∷ (3, 3) ∷ (3, 13) ∷ [])
     ∷ []
 
 abbrev pub eastMembers : List (List (ℕ × ℕ))
@@ -55,7 +61,7 @@ eastMembers =
     ∷ ((13, 1) ∷ [])
     ∷ ((13, 3) ∷ (12, 3) ∷ (11, 3) ∷ [])
     ∷ ((1, 2) ∷ (13, 2) ∷ [])
-    ∷ ((1, 1) ∷ (13, 3) ∷ [])
+    ∷ ((13, 1) ∷ (12, 2) ∷ (11, 3) ∷ (1, 3) ∷ [])
     ∷ []
 
 abbrev pub southMembers : List (List (ℕ × ℕ))
@@ -67,7 +73,7 @@ southMembers =
     ∷ ((13, 13) ∷ [])
     ∷ ((11, 13) ∷ (11, 12) ∷ (11, 11) ∷ [])
     ∷ ((12, 1) ∷ (12, 13) ∷ [])
-    ∷ ((13, 1) ∷ (11, 13) ∷ [])
+    ∷ ((13, 13) ∷ (12, 12) ∷ (11, 11) ∷ (11, 1) ∷ [])
     ∷ []
 
 abbrev pub westMembers : List (List (ℕ × ℕ))
@@ -79,7 +85,7 @@ westMembers =
     ∷ ((1, 13) ∷ [])
     ∷ ((3, 11) ∷ (2, 11) ∷ (1, 11) ∷ [])
     ∷ ((1, 12) ∷ (13, 12) ∷ [])
-    ∷ ((1, 13) ∷ (13, 11) ∷ [])
+    ∷ ((1, 13) ∷ (2, 12) ∷ (3, 11) ∷ (13, 11) ∷ [])
     ∷ []
 
 -- those of relation t at place t
