@@ -14,7 +14,7 @@ use Rattle.pages.specs.Under.{seen}
 use Rattle.pages.proofs.Lists.{every-map, every-both, sum-same, sum-add, sum-below}
 use Rattle.pages.proofs.Below.{below-same, below-add, below-one, sum-places, eqb-sym, cond-add, below-chosen}
 use Rattle.pages.proofs.Facts.{Facts}
-pub use Rattle.pages.proofs.Counting.{highest}
+use Rattle.pages.proofs.Counting.{highest}
 use Rattle.pages.proofs.Entries.{leaf-children, above-children}
 use Rattle.pages.proofs.Walk.{sum-times, atLevel, children, root-level}
 

@@ -18,10 +18,10 @@ use Rattle.pages.proofs.Lists.{both, Holds, holds, all-below, every-map, every-
 use Rattle.pages.proofs.Below.{below-same, below-const, below-none, below-one}
 use Rattle.pages.proofs.Facts.{Facts}
 use Rattle.pages.proofs.Whole.{sound-in}
-use Rattle.pages.proofs.Counting.{stored-sum}
+use Rattle.pages.proofs.Counting.{stored-sum, highest}
 use Rattle.pages.proofs.Entries.{Fits, leaf-pieces, fits-above}
 use Rattle.pages.proofs.Walk.{under-root}
-use Rattle.pages.proofs.Visit.{highest, seen-root}
+use Rattle.pages.proofs.Visit.{seen-root}
 use Rattle.soundness.specs.Steps.{Adds, Room, totalOf, visits, stores, Piece, Head, Tree, rootFewest, Rooted}
 use Rattle.soundness.proofs.Words.{first-word, pages-word, pieces-word, tail-words}
 use Rattle.soundness.proofs.Walks.{Child}
