@@ -15,7 +15,7 @@ ghost use Rattle.job.specs.Words.{pieceCount, queryCount, queryStart, wellForme
 ghost use Rattle.job.specs.Steps.{tableAt};
 ghost use Rattle.job_io.specs.Gathered.{kept, heldPieces, heldQueries, heldAtEnd, Gathered};
 
-// Lines are gathered here, so that a write has many of them. The pieces of a job print at most some 29,000 bytes: a buffer of less is
+// Lines are gathered here, so that a write has many of them. The pieces of a job print 28,374 bytes at the most: a buffer of less is
 // written between their lines as well as between those of the queries, in jobs that can be given, and runs can show both.
 const BUFFER_BYTES: usize = 16_384;
 
