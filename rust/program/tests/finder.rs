@@ -5,7 +5,9 @@ use program::{Compared, Program};
 use std::path::Path;
 
 fn finder() -> Program {
-    let path = Path::new(env!("CARGO_MANIFEST_DIR")).join("../../target/bin/finder");
+    // Not env!: where a built tree was copied, that would still name the first one.
+    let here = std::env::var_os("CARGO_MANIFEST_DIR").expect("cargo says where this crate is");
+    let path = Path::new(&here).join("../../target/bin/finder");
     assert!(
         path.is_file(),
         "{} is missing: make it with `rt check finder` at the root of the project first; \

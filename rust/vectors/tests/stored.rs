@@ -18,10 +18,11 @@ use std::fs;
 use std::path::PathBuf;
 use vectors::{jobs, queries, relations, stored};
 
-/// A folder or a file of the program crates.
+/// A folder or a file of the program crates. Not env!: where a built tree was
+/// copied, that would still name the first one.
 fn path(file: &str) -> PathBuf {
-    let crates = concat!(env!("CARGO_MANIFEST_DIR"), "/../../crates");
-    PathBuf::from(crates).join(file)
+    let here = std::env::var_os("CARGO_MANIFEST_DIR").expect("cargo says where this crate is");
+    PathBuf::from(here).join("../../crates").join(file)
 }
 
 fn read(file: &str) -> Vec<u8> {
