@@ -38,7 +38,7 @@ Off w r q = Every (λ x. q ≢ x) (path (tableIn w) r)
 
 pub record Claims : Type 0 where
   -- "the pages on the path": of a sound table it leads from the root to a leaf
-  pub path : (w : List ℕ) (r : Rect) → T (sound w)
+  pub descends : (w : List ℕ) (r : Rect) → T (sound w)
       → Path (tableIn w .pages) r (page (tableIn w) (tableIn w .root) .level) (tableIn w .root) (path (tableIn w) r)
   -- "The table is sound afterwards, so vacated words are zero"; the slice is as long
   pub keeps : (w : List ℕ) (n : ℕ) (r : Rect) → TABLE_WORDS ≤ length w → T (sound w) → placeRefusal w n r ≡ ACCEPTED

@@ -24,19 +24,19 @@ relationSizes = topologicalSizes ++ directionSizes ++ directionSizes ++ directio
 -- Then configurations (i, j) of each: with its size they leave room for no other set of codes on y or on x.
 
 -- "both codes in": one for each of the codes
-abbrev pub both : List ℕ → List (ℕ × ℕ)
-both codes = map (λ c. (c, c)) codes
+abbrev pub onBoth : List ℕ → List (ℕ × ℕ)
+onBoth codes = map (λ c. (c, c)) codes
 
 abbrev pub topologicalMembers : List (List (ℕ × ℕ))
 topologicalMembers =
-    both (1 to 13)
-    ∷ both (2 to 12)
-    ∷ both (3 to 11)
-    ∷ both (6 ∷ 7 ∷ 9 ∷ 10 ∷ [])
-    ∷ both (9 ∷ [])
-    ∷ both (7 ∷ [])
-    ∷ both (4 ∷ 5 ∷ 7 ∷ 8 ∷ [])
-    ∷ both (5 ∷ [])
+    onBoth (1 to 13)
+    ∷ onBoth (2 to 12)
+    ∷ onBoth (3 to 11)
+    ∷ onBoth (6 ∷ 7 ∷ 9 ∷ 10 ∷ [])
+    ∷ onBoth (9 ∷ [])
+    ∷ onBoth (7 ∷ [])
+    ∷ onBoth (4 ∷ 5 ∷ 7 ∷ 8 ∷ [])
+    ∷ onBoth (5 ∷ [])
     ∷ []
 
 -- strong, weak, strong bounded, weak bounded, strong corner, weak corner, just, plain; then the same in the other directions

@@ -212,7 +212,7 @@ mod tests {
         assert!(printed(&jobs, "65536-bytes").ends_with("P 3274 7\nQ 0 1 1 5\n"));
     }
 
-    /// What a buffer full is to their lines, these jobs are to a buffer.
+    /// Each prints more than a buffer of 16,384 bytes holds.
     #[test]
     fn large_jobs_print_much() {
         let jobs = all();
