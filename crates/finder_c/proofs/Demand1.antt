@@ -1,12 +1,15 @@
 -- Demand 1 holds, by cases on the conditions: specs/Demand1 has the statement.
-use Prim.Native.Nat.{ℕ, _≤_}
-use native.Mathlib.Omega.{arith}
+use Prim.Native.Nat.{ℕ}
 use mathlib.Core.Path.{_≡_, refl, sym, ap, _∙_, subst}
 use mathlib.Core.Logic.{_≢_}
 use mathlib.Core.Bool.{Bool, true, false, not, cond, _||_}
 use mathlib.Core.List.{List, [], _∷_, _++_}
 use lib.ListN.{length, drop, replicate}
 use lib.Dec.{leb, ltb, eqb}
+use lib.IntN.{pos}
+use borrow.Author.Tests.{ne-eqb}
+use Rattle.outline.specs.Refusals.{wrongCount, within, outlineRefusal}
+use Rattle.outline.specs.Calls.{areaCall, pointCall}
 use Rattle.pages.specs.Lists.{Every}
 use Rattle.relations.specs.declared.AdmittedSet.{AdmittedSet}
 use Rattle.relations.specs.Axis.{CODES}
@@ -24,14 +27,14 @@ use Rattle.placing.specs.Calls.{placeRefusal, placedWords, placeSound, placeCal
 use Rattle.query.specs.declared.Answer.{Answer}
 use Rattle.query.specs.declared.Opened.{Opened}
 use Rattle.query.specs.Calls.{noAnswer, noOpened, soundRefusal, queryOpened, queryAnswer, querySound, queryCall, openedSound, openedCall, OpenedWords}
-use Rattle.finder_c.specs.Demand1.{firstOf, emptyOrder, checkOrder, placeOrder, queryOrder, admittedOrder, Demand1}
+use Rattle.finder_c.specs.Demand1.{firstOf, Numbered, emptyOrder, checkOrder, placeOrder, queryOrder, admittedOrder, areaOrder, pointOrder, Demand1}
 
--- of conditions whose numbers are at most 8
-first-most : (cs : List (ℕ × Bool)) → Every (λ c. c .0 ≤ 8) cs → firstOf cs ≤ 8
-first-most [] h = omega arith
-first-most (c ∷ cs) h = go (c .1) (first-most cs (h .1))
+-- of conditions that have one of the numbers
+first-numbered : (cs : List (ℕ × Bool)) → Every (λ c. Numbered (c .0)) cs → Numbered (firstOf cs)
+first-numbered [] h = refl
+first-numbered (c ∷ cs) h = go (c .1) (first-numbered cs (h .1))
   where
-    go : (b : Bool) → firstOf cs ≤ 8 → cond b (c .0) (firstOf cs) ≤ 8
+    go : (b : Bool) → Numbered (firstOf cs) → Numbered (cond b (c .0) (firstOf cs))
     go true k = h .0
     go false k = k
 
@@ -164,6 +167,31 @@ module _ (clauses : List ℕ) where
   unfolding admittedOf refusalOf admitting
   admitted-counts = admitted-none (eqb (length clauses) 0 || ltb CLAUSES (length clauses)) (someBad clauses)
 
+-- the calls on an outline
+
+outline-order : (wrong range : Bool) → _≡_ {A = ℕ} (cond wrong 10 (cond range 0 11)) (cond wrong 10 (cond (not range) 11 0))
+outline-order true range = refl
+outline-order false true = refl
+outline-order false false = refl
+
+module _ (o : List ℕ) where
+  area-first : areaCall o .refusal ≡ firstOf (areaOrder o)
+  unfolding areaCall outlineRefusal
+  area-first = outline-order (wrongCount (length o)) (within o)
+
+  area-zero : areaCall o .refusal ≢ 0 → areaCall o .«twice_area» ≡ pos 0
+  unfolding areaCall
+  area-zero n = rw (ne-eqb _ 0 n)
+
+  module _ (x y : ℕ) where
+    point-first : pointCall o x y .refusal ≡ firstOf (pointOrder o x y)
+    unfolding pointCall outlineRefusal
+    point-first = outline-order (wrongCount (length o)) (within (x ∷ (y ∷ o)))
+
+    point-zero : pointCall o x y .refusal ≢ 0 → pointCall o x y .place ≡ 0
+    unfolding pointCall
+    point-zero n = rw (ne-eqb _ 0 n)
+
 -- the calls on a table
 
 module _ (w : List ℕ) where
@@ -206,13 +234,16 @@ demand1 = record {
   opened = λ w q clauses before after r O. ap (λ x. x .refusal) (O .result)
       ∙ opened-is w q clauses before (λ x n. x .refusal ≡ n) refl (λ n. refl);
   admitted = admitted-first;
-  most = λ w n r clauses o needed. (
-    first-most (emptyOrder w) (omega arith, tt),
-    first-most (checkOrder w) (omega arith, (omega arith, tt)),
-    first-most (placeOrder w n r) (omega arith, (omega arith, (omega arith, (omega arith, (omega arith, tt))))),
-    first-most (queryOrder w r clauses o needed) (omega arith, (omega arith, (omega arith, (omega arith, (omega arith, (omega arith, tt)))))),
-    first-most (admittedOrder clauses) (omega arith, (omega arith, tt)),
+  area = area-first;
+  point = point-first;
+  numbers = λ w n r clauses o needed. (
+    first-numbered (emptyOrder w) (refl, tt),
+    first-numbered (checkOrder w) (refl, (refl, tt)),
+    first-numbered (placeOrder w n r) (refl, (refl, (refl, (refl, (refl, tt))))),
+    first-numbered (queryOrder w r clauses o needed) (refl, (refl, (refl, (refl, (refl, (refl, tt)))))),
+    first-numbered (admittedOrder clauses) (refl, (refl, tt)),
   );
+  outline-numbers = λ o x y. (first-numbered (areaOrder o) (refl, (refl, tt)), first-numbered (pointOrder o x y) (refl, (refl, tt)));
   empty-leaves = empty-leaves;
   check-counts = refused-none;
   place-leaves = place-leaves;
@@ -220,4 +251,6 @@ demand1 = record {
       (λ z. absurd (z (query-done w q clauses o))) (λ n z. (refl, refl, refl));
   opened-leaves = opened-same;
   admitted-counts = admitted-counts;
+  area-zero = area-zero;
+  point-zero = point-zero;
 }

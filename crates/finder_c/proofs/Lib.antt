@@ -1,1 +1,3 @@
 pub mod Demand1
+pub mod Corners
+pub mod Claimed

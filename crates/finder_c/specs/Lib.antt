@@ -1,2 +1,4 @@
--- The statement of demand 1 over the definitions of the calls of document 01 that can refuse; `front` refuses nothing and writes no word.
+-- The statement of demand 1 over the definitions of the calls that can refuse (`front` refuses nothing and writes no word), and what ties
+-- the calls of different crates together.
 pub mod Demand1
+pub mod Claims

@@ -1,4 +1,6 @@
 // The C interface: exactly what include/finder.h declares, each export with the equation of the call behind it.
+use outline::Area;
+use outline::Located;
 use pages::Rect;
 use query::Answer;
 use query::Opened;
@@ -8,6 +10,7 @@ ghost use mathlib.Core.Path.{_≡_};
 ghost use Rattle.relations.specs.Query.{admittedOf};
 ghost use Rattle.pages.specs.Rectangles.{rectOf};
 ghost use Rattle.pages.specs.Calls.{emptyCall};
+ghost use Rattle.outline.specs.Calls.{areaCall, pointCall};
 ghost use Rattle.soundness.specs.Calls.{checkCall};
 ghost use Rattle.placing.specs.Calls.{placeCall};
 ghost use Rattle.query.specs.Calls.{queryCall, OpenedWords};
@@ -75,4 +78,18 @@ pub extern "C" fn finder_admitted_set(clauses: &[u64]) -> AdmittedSet
     ensures { λ r. ⌜ r ≡ admittedOf (now (clauses .entry)) ⌝ }
 {
     relations::admitted(clauses)
+}
+
+#[no_mangle]
+pub extern "C" fn finder_outline_area(words: &[u32]) -> Area
+    ensures { λ r. ⌜ r ≡ areaCall (now (words .entry)) ⌝ }
+{
+    outline::outline_area(words)
+}
+
+#[no_mangle]
+pub extern "C" fn finder_outline_point(words: &[u32], x: u32, y: u32) -> Located
+    ensures { λ r. ⌜ r ≡ pointCall (now (words .entry)) x y ⌝ }
+{
+    outline::outline_point(words, x, y)
 }

@@ -1,0 +1,100 @@
+// The point test, edge by edge and by cross products, so that nothing is divided.
+use super::Edge;
+use super::Place;
+use super::Point;
+use super::sums::product;
+use super::words::edge_at;
+ghost use mathlib.Core.Path.{_≡_};
+ghost use Prim.Native.Nat.{_≤_};
+ghost use Rattle.outline.specs.Outline.{points, edges};
+ghost use Rattle.outline.specs.Place.{between, onEdge, placeOf};
+ghost use Rattle.outline.specs.Refusals.{ACCEPTED, outlineRefusal};
+ghost use Rattle.outline.specs.Steps.{PointWithin, EdgeWithin, sidesOf, crossing};
+
+// Two sums whose difference is twice the signed area of an edge's ends and a point.
+struct Sides {
+    left: u64,
+    right: u64,
+}
+
+fn sides_of(e: Edge, p: Point) -> Sides
+    requires { ⌜ EdgeWithin e × PointWithin p ⌝ }
+    ensures { λ r. ⌜ r ≡ sidesOf e p ⌝ }
+{
+    Sides {
+        left: product(e.a, e.d) + product(e.c, p.y) + product(p.x, e.b),
+        right: product(e.b, e.c) + product(e.d, p.x) + product(p.y, e.a),
+    }
+}
+
+// z is one of v and w, or lies between them.
+fn is_between(v: u32, w: u32, z: u32) -> bool
+    ensures { λ r. ⌜ r ≡ between v w z ⌝ }
+{
+    if v <= w {
+        if z < v {
+            return false;
+        }
+        return z <= w;
+    }
+    if z < w {
+        return false;
+    }
+    z <= v
+}
+
+// In the box of the edge's ends, and in line with them.
+fn is_on(e: Edge, p: Point) -> bool
+    requires { ⌜ EdgeWithin e × PointWithin p ⌝ }
+    ensures { λ r. ⌜ r ≡ onEdge e p ⌝ }
+{
+    if !is_between(e.a, e.c, p.x) {
+        return false;
+    }
+    if !is_between(e.b, e.d, p.y) {
+        return false;
+    }
+    let s = sides_of(e, p);
+    s.left == s.right
+}
+
+// 1 where the edge counts, else 0. One that goes up meets the ray when the point is not on its right, one that goes down when it is not
+// on its left.
+fn crossing_of(e: Edge, p: Point) -> u32
+    requires { ⌜ EdgeWithin e × PointWithin p ⌝ }
+    ensures { λ r. ⌜ (r ≡ crossing e p) × (r ≤ 1) ⌝ }
+{
+    if e.b <= p.y {
+        if e.d <= p.y {
+            return 0;
+        }
+        let s = sides_of(e, p);
+        return (s.right <= s.left) as u32;
+    }
+    if p.y < e.d {
+        return 0;
+    }
+    let s = sides_of(e, p);
+    (s.left <= s.right) as u32
+}
+
+pub fn place_of(words: &[u32], p: Point) -> Place
+    requires { ⌜ (outlineRefusal (now words) (now words) ≡ ACCEPTED) × PointWithin p ⌝ }
+    ensures { λ r. ⌜ r ≡ placeOf (edges (points (now (words .entry)))) p ⌝ }
+{
+    let count: usize = words.len() / 2;
+    let mut crossings: u32 = 0;
+    let mut i: usize = 0;
+    while i < count {
+        let e = edge_at(words, i);
+        if is_on(e, p) {
+            return Place::On;
+        }
+        crossings += crossing_of(e, p);
+        i += 1;
+    }
+    if crossings % 2 == 1 {
+        return Place::Inside;
+    }
+    Place::Outside
+}
