@@ -1,6 +1,7 @@
-//! Document 01 once more, in plain safe Rust.
+//! Document 01 once more, in plain safe Rust, and the requests of document 02
+//! that landed: 2.10.
 //!
-//! This crate is a second reading of the paper. It shares nothing with the
+//! This crate is a second reading of the papers. It shares nothing with the
 //! finder itself, so that the two can be compared. It is written for clarity:
 //! small functions, each beside the sentence of the paper that it follows.
 //!
@@ -20,11 +21,13 @@
 
 #![forbid(unsafe_code)]
 
-// The paper.
+// The papers.
 pub mod clauses;
 pub mod codes;
+pub mod fractions;
 pub mod inside;
 pub mod job;
+pub mod outlines;
 pub mod pages;
 pub mod placing;
 pub mod queries;
@@ -34,13 +37,15 @@ pub mod relations;
 pub mod sizes;
 pub mod soundness;
 
-// Tables to try it on.
+// Tables and outlines to try it on.
 pub mod damage;
 pub mod random;
+pub mod shapes;
 pub mod tables;
 
 pub use clauses::admitted;
 pub use job::job;
+pub use outlines::{outline_area, outline_point};
 pub use pages::empty;
 pub use placing::place;
 pub use queries::{front, opened_pages, query};

@@ -17,3 +17,7 @@ pub const TABLE_NOT_SOUND: u32 = 6;
 pub const ALREADY_STANDING: u32 = 7;
 /// "8 answer slice shorter than the piece count (query) or than k (opened pages)."
 pub const ANSWER_TOO_SHORT: u32 = 8;
+/// "10, odd word count, or point count outside 3 to 64"
+pub const POINT_COUNT: u32 = 10;
+/// "11, a coordinate of the outline or of the point above 1,000,000"
+pub const COORDINATE_TOO_LARGE: u32 = 11;

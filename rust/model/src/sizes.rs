@@ -1,6 +1,7 @@
-//! The sizes of document 01, each named one time.
+//! The sizes of the papers, each named one time.
 
-/// "none exceeds 1,000,000"
+/// "none exceeds 1,000,000", and of an outline "each coordinate at most
+/// 1,000,000"
 pub const EDGE: u32 = 1_000_000;
 
 /// "A piece has a number, 0 to 1,023": so many numbers.
@@ -41,3 +42,9 @@ pub const RELATIONS: u32 = 40;
 
 /// Axis codes are numbered 1 to 13.
 pub const CODES: usize = 13;
+
+/// "An outline is 3 to 64 points": the fewest.
+pub const POINTS_FEWEST: usize = 3;
+
+/// "An outline is 3 to 64 points": the most.
+pub const POINTS: usize = 64;
