@@ -1,9 +1,11 @@
 /*
- * The piece finder: page tables and spatial relations.
+ * The piece finder: page tables, spatial relations and outlines.
  *
  * A table of up to 1,024 pieces is a slice of 32-bit words that the caller
  * owns. Pieces are placed in it; a query writes the numbers of the pieces whose
- * rectangle stands to a reference rectangle as the clauses say.
+ * rectangle stands to a reference rectangle as the clauses say. An outline is a
+ * slice of points and needs no table: two calls give its area and say where a
+ * point lies by it.
  *
  * What is lent. A pointer and the length after it, in elements, lend a slice
  * for the time of the call; nothing of it is kept afterwards. The pointer is
@@ -16,7 +18,7 @@
  * Within that, anything may be passed: slices of any length with any words in
  * them, and any numbers. Every call comes to an end and either does its work or
  * refuses with one of the numbers below. A refusal reports zero counts (and
- * empty rows) and changes no word of any slice.
+ * empty rows, a zero area, no place) and changes no word of any slice.
  */
 #ifndef FINDER_H
 #define FINDER_H
@@ -42,7 +44,8 @@ extern "C" {
    finder_opened_pages. */
 #define FINDER_PAGES 341
 
-/* The largest number in a valid rectangle, in tenths of a millimetre. */
+/* The largest number in a valid rectangle, in tenths of a millimetre, and the
+   largest coordinate of an outline or of a point. */
 #define FINDER_EDGE 1000000
 
 /* A query has 1 to so many clauses. */
@@ -53,6 +56,11 @@ extern "C" {
 
 /* Row sets of an admitted set, and bits in each. */
 #define FINDER_CODES 13
+
+/* An outline has at least FINDER_POINTS_FEWEST points and at most
+   FINDER_POINTS, two words each. */
+#define FINDER_POINTS_FEWEST 3
+#define FINDER_POINTS 64
 
 /* Refusals. Each call tests in the order given with it, and returns the first
    whose condition holds. */
@@ -76,6 +84,11 @@ extern "C" {
 /* The answer slice is shorter than the table's piece count (finder_query) or
    than its page count (finder_opened_pages). */
 #define FINDER_ANSWER_TOO_SHORT 8
+/* The outline has an odd number of words, or fewer than FINDER_POINTS_FEWEST or
+   more than FINDER_POINTS points. */
+#define FINDER_POINT_COUNT 10
+/* A coordinate of the outline or of the point is above FINDER_EDGE. */
+#define FINDER_COORDINATE_TOO_LARGE 11
 
 /* Relations, and clauses made of them.
 
@@ -120,6 +133,11 @@ extern "C" {
 #define FINDER_SOUTH FINDER_DIRECTED(FINDER_TO_SOUTH, FINDER_PLAIN)
 #define FINDER_WEST FINDER_DIRECTED(FINDER_TO_WEST, FINDER_PLAIN)
 
+/* Places of a point by an outline. */
+#define FINDER_PLACE_ON 1
+#define FINDER_PLACE_INSIDE 2
+#define FINDER_PLACE_OUTSIDE 3
+
 /* What the calls return. In each, refusal is 0 or one of the numbers above, and
    where it is not 0 all else is zero. */
 
@@ -146,6 +164,16 @@ typedef struct {
                                     i the code on y and j the code on x */
     uint32_t count;              /* how many of the 169 are admitted */
 } finder_admitted;
+
+typedef struct {
+    uint32_t refusal;
+    int64_t twice_area; /* positive when the points run counter-clockwise */
+} finder_area;
+
+typedef struct {
+    uint32_t refusal;
+    uint32_t place; /* one of the places above */
+} finder_point;
 
 /* Makes the table empty, whatever its words are. Refuses 1. Returns the
    refusal. */
@@ -183,6 +211,24 @@ finder_opened finder_opened_pages(const uint32_t *table, size_t table_len,
 /* Gives the configurations that the clauses admit. Refuses 4, 5. */
 finder_admitted finder_admitted_set(const uint64_t *clauses,
                                     size_t clause_count);
+
+/* Outlines. The words are x and y of each point in turn, x to the east and y to
+   the north; the last point is joined to the first. An outline may cross itself
+   and may have the same point more than once. outline_len counts words, so it
+   is twice the number of points. */
+
+/* Gives twice the signed area of the outline: positive when its points run
+   counter-clockwise, negative when they run clockwise, zero on a refusal. It is
+   the sum of a * d - b * c over the edges from (a, b) to (c, d). Refuses 10,
+   11. */
+finder_area finder_outline_area(const uint32_t *outline, size_t outline_len);
+
+/* Says where the point (x, y) lies by the outline. A point on any edge is on
+   the outline, which is answered before all else; any other is inside when the
+   ray from it to the east crosses an odd number of edges, and else outside. So
+   a part that an outline runs round twice is outside. Refuses 10, 11. */
+finder_point finder_outline_point(const uint32_t *outline, size_t outline_len,
+                                  uint32_t x, uint32_t y);
 
 #ifdef __cplusplus
 }
