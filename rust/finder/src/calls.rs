@@ -43,7 +43,18 @@ pub struct Admitted {
     pub count: u32,
 }
 
-/// Zero is accepted; every other number is one of the eight.
+/// Where a point lies by an outline.
+#[derive(Clone, Copy, Debug, PartialEq, Eq, Hash)]
+pub enum Place {
+    /// On an edge or at a corner.
+    On = 1,
+    /// Off the outline, with an odd number of crossings to the east.
+    Inside = 2,
+    /// Off the outline, with an even number of crossings to the east.
+    Outside = 3,
+}
+
+/// Zero is accepted; every other number is one of the refusals.
 fn accepted(number: u32) -> Result<(), Refusal> {
     match (number, Refusal::from_number(number)) {
         (0, _) => Ok(()),
@@ -186,4 +197,47 @@ pub fn admitted(clauses: &[u64]) -> Result<Admitted, Refusal> {
 /// ```
 pub fn front(answer: &[u16], count: usize) -> &[u16] {
     answer.get(..count).unwrap_or_default()
+}
+
+/// Twice the signed area of an outline: positive when its points run
+/// counter-clockwise, negative when they run clockwise. An outline is the words
+/// x, y of 3 to 64 points in turn, the last joined to the first, no coordinate
+/// above 1,000,000.
+///
+/// ```
+/// use finder::{outline_area, Refusal};
+/// let triangle = [0, 0, 40, 0, 0, 30];
+/// assert_eq!(outline_area(&triangle), Ok(1200));
+/// let clockwise = [0, 0, 0, 30, 40, 0];
+/// assert_eq!(outline_area(&clockwise), Ok(-1200));
+/// assert_eq!(outline_area(&triangle[..4]), Err(Refusal::PointCount));
+/// let too_wide = [0, 0, 1_000_001, 0, 0, 30];
+/// assert_eq!(outline_area(&too_wide), Err(Refusal::CoordinateTooLarge));
+/// ```
+pub fn outline_area(outline: &[u32]) -> Result<i64, Refusal> {
+    let area = raw::outline_area(outline);
+    accepted(area.refusal)?;
+    Ok(area.twice_area)
+}
+
+/// Where the point (x, y) lies by an outline, which may cross itself.
+///
+/// ```
+/// use finder::{outline_point, Place, Refusal};
+/// let bow_tie = [0, 0, 40, 40, 40, 0, 0, 40];
+/// assert_eq!(outline_point(&bow_tie, 20, 20), Ok(Place::On));
+/// assert_eq!(outline_point(&bow_tie, 10, 20), Ok(Place::Inside));
+/// assert_eq!(outline_point(&bow_tie, 20, 10), Ok(Place::Outside));
+/// let far = outline_point(&bow_tie, 20, 1_000_001);
+/// assert_eq!(far, Err(Refusal::CoordinateTooLarge));
+/// ```
+pub fn outline_point(outline: &[u32], x: u32, y: u32) -> Result<Place, Refusal> {
+    let located = raw::outline_point(outline, x, y);
+    accepted(located.refusal)?;
+    match located.place {
+        1 => Ok(Place::On),
+        2 => Ok(Place::Inside),
+        3 => Ok(Place::Outside),
+        number => panic!("the finder returned {number}, which is no place"),
+    }
 }

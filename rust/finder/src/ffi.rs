@@ -47,6 +47,26 @@ pub struct AdmittedSet {
     pub count: u32,
 }
 
+/// What `finder_outline_area` returns.
+#[repr(C)]
+#[derive(Clone, Copy, Debug, PartialEq, Eq)]
+pub struct Area {
+    /// Zero, or the number of the refusal.
+    pub refusal: u32,
+    /// Twice the signed area.
+    pub twice_area: i64,
+}
+
+/// What `finder_outline_point` returns: in C, `finder_point`.
+#[repr(C)]
+#[derive(Clone, Copy, Debug, PartialEq, Eq)]
+pub struct Located {
+    /// Zero, or the number of the refusal.
+    pub refusal: u32,
+    /// 1 on the outline, 2 inside, 3 outside; 0 when refused.
+    pub place: u32,
+}
+
 extern "C" {
     /// Makes the table empty.
     pub fn finder_empty(table: *mut u32, table_len: usize) -> u32;
@@ -95,4 +115,11 @@ extern "C" {
 
     /// Gives the configurations that clauses admit.
     pub fn finder_admitted_set(clauses: *const u64, clause_count: usize) -> AdmittedSet;
+
+    /// Gives twice the signed area of an outline.
+    pub fn finder_outline_area(outline: *const u32, outline_len: usize) -> Area;
+
+    /// Says where a point lies by an outline.
+    pub fn finder_outline_point(outline: *const u32, outline_len: usize, x: u32, y: u32)
+        -> Located;
 }

@@ -2,7 +2,8 @@
 //!
 //! A table of up to 1,024 pieces is a slice of 32-bit words that the caller
 //! owns. Pieces are placed in it, and a query writes the numbers of those whose
-//! rectangle stands to a reference as a wish says.
+//! rectangle stands to a reference as a wish says. Outlines of points need no
+//! table: [`outline_area`] and [`outline_point`].
 //!
 //! ```
 //! use finder::{relation::*, *};
@@ -36,7 +37,8 @@ mod refusal;
 pub mod relation;
 
 pub use calls::{
-    admitted, check, empty, front, opened_pages, place, query, Admitted, Listed, Rect,
+    admitted, check, empty, front, opened_pages, outline_area, outline_point, place, query,
+    Admitted, Listed, Place, Rect,
 };
 pub use refusal::Refusal;
 pub use relation::{one_of, Relation};
@@ -50,8 +52,15 @@ pub const PAGES: usize = 341;
 /// Piece numbers, 0 to 1,023; so many answer words always suffice for a query.
 pub const PIECES: usize = 1_024;
 
-/// The largest number in a valid rectangle.
+/// The largest number in a valid rectangle, and the largest coordinate of an
+/// outline or of a point.
 pub const EDGE: u32 = 1_000_000;
 
 /// The most clauses that a query may have.
 pub const CLAUSES: usize = 8;
+
+/// The fewest points that an outline may have.
+pub const POINTS_FEWEST: usize = 3;
+
+/// The most points that an outline may have, two words each.
+pub const POINTS: usize = 64;

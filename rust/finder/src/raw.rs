@@ -3,7 +3,7 @@
 //! slice, which is never a null pointer and always aligned.
 
 use crate::ffi;
-pub use crate::ffi::{AdmittedSet, Answer, Checked, Opened};
+pub use crate::ffi::{AdmittedSet, Answer, Area, Checked, Located, Opened};
 use crate::Rect;
 
 /// The empty call. Returns zero or the refusal.
@@ -72,4 +72,17 @@ pub fn admitted(clauses: &[u64]) -> AdmittedSet {
     // SAFETY: the pointer and the length are of one slice, lent for the call,
     // which reads it only.
     unsafe { ffi::finder_admitted_set(clauses.as_ptr(), clauses.len()) }
+}
+
+/// The outline-area call.
+pub fn outline_area(outline: &[u32]) -> Area {
+    // SAFETY: the pointer and the length are of one slice, lent for the call,
+    // which reads it only.
+    unsafe { ffi::finder_outline_area(outline.as_ptr(), outline.len()) }
+}
+
+/// The outline-point call.
+pub fn outline_point(outline: &[u32], x: u32, y: u32) -> Located {
+    // SAFETY: as for the outline-area call.
+    unsafe { ffi::finder_outline_point(outline.as_ptr(), outline.len(), x, y) }
 }

@@ -1,4 +1,4 @@
-//! The eight refusals.
+//! The refusals.
 
 use std::fmt;
 
@@ -22,11 +22,16 @@ pub enum Refusal {
     /// The answer slice is shorter than the piece count (query) or than the
     /// page count (opened pages).
     AnswerTooShort = 8,
+    /// The outline has an odd number of words, or fewer than 3 or more than 64
+    /// points.
+    PointCount = 10,
+    /// A coordinate of the outline or of the point is above 1,000,000.
+    CoordinateTooLarge = 11,
 }
 
 impl Refusal {
     /// All of them, in order.
-    pub const ALL: [Refusal; 8] = [
+    pub const ALL: [Refusal; 10] = [
         Refusal::TableTooShort,
         Refusal::RectangleNotValid,
         Refusal::NumberTooLarge,
@@ -35,9 +40,11 @@ impl Refusal {
         Refusal::TableNotSound,
         Refusal::AlreadyStanding,
         Refusal::AnswerTooShort,
+        Refusal::PointCount,
+        Refusal::CoordinateTooLarge,
     ];
 
-    /// Its number, 1 to 8.
+    /// Its number: 1 to 8, 10 or 11.
     pub const fn number(self) -> u32 {
         self as u32
     }
@@ -68,6 +75,14 @@ impl fmt::Display for Refusal {
             Refusal::TableNotSound => "table not sound",
             Refusal::AlreadyStanding => "number already standing",
             Refusal::AnswerTooShort => "answer slice too short",
+            Refusal::PointCount => {
+                "outline with an odd number of words, or not 3 to 64 points: give 3 to 64 points, \
+                 x and y of each"
+            }
+            Refusal::CoordinateTooLarge => {
+                "a coordinate of the outline or of the point above 1,000,000: give tenths of a \
+                 millimetre, 0 to 1,000,000"
+            }
         };
         write!(f, "refusal {}: {why}", self.number())
     }

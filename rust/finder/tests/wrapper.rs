@@ -2,9 +2,11 @@
 
 use finder::relation::{one_of, Relation, ALL};
 use finder::{admitted, check, empty, front, opened_pages, place, query, Rect, Refusal};
+use finder::{outline_area, outline_point, Place, POINTS, POINTS_FEWEST};
 use finder::{EDGE, PAGES, PIECES, TABLE_WORDS};
 
 const EQUAL: u64 = one_of(&[finder::relation::EQUAL]);
+const SQUARE: [u32; 8] = [10, 10, 20, 10, 20, 20, 10, 20];
 
 fn nine() -> Vec<u32> {
     let mut table = vec![0; TABLE_WORDS];
@@ -22,12 +24,15 @@ fn sizes_are_those_of_the_paper() {
     assert_eq!(PIECES, model::PIECES);
     assert_eq!(EDGE, model::sizes::EDGE);
     assert_eq!(finder::CLAUSES, model::sizes::CLAUSES);
+    assert_eq!(POINTS_FEWEST, model::sizes::POINTS_FEWEST);
+    assert_eq!(POINTS, model::sizes::POINTS);
 }
 
 #[test]
 fn refusals_have_their_numbers() {
-    for (place, refusal) in Refusal::ALL.into_iter().enumerate() {
-        assert_eq!(refusal.number() as usize, place + 1);
+    let numbers = [1, 2, 3, 4, 5, 6, 7, 8, 10, 11];
+    assert_eq!(Refusal::ALL.map(Refusal::number), numbers);
+    for refusal in Refusal::ALL {
         assert_eq!(Refusal::from_number(refusal.number()), Some(refusal));
         assert!(refusal.to_string().contains(&refusal.number().to_string()));
     }
@@ -97,6 +102,33 @@ fn each_refusal_by_name() {
     assert_eq!(asked, Err(Refusal::AnswerTooShort));
     table[2] = 10;
     assert_eq!(check(&table), Err(Refusal::TableNotSound));
+    assert_eq!(outline_area(&SQUARE[1..]), Err(Refusal::PointCount));
+    let far = outline_point(&SQUARE, EDGE + 1, 0);
+    assert_eq!(far, Err(Refusal::CoordinateTooLarge));
+}
+
+#[test]
+fn areas_and_places() {
+    let clockwise = [10, 10, 10, 20, 20, 20, 20, 10];
+    let largest = [0, 0, EDGE, 0, EDGE, EDGE, 0, EDGE];
+    assert_eq!(outline_area(&SQUARE), Ok(200));
+    assert_eq!(outline_area(&clockwise), Ok(-200));
+    assert_eq!(outline_area(&largest), Ok(2_000_000_000_000));
+    assert_eq!(outline_area(&[0; 2 * POINTS]), Ok(0));
+    assert_eq!(outline_point(&SQUARE, 15, 15), Ok(Place::Inside));
+    assert_eq!(outline_point(&SQUARE, 20, 15), Ok(Place::On));
+    assert_eq!(outline_point(&SQUARE, 25, 15), Ok(Place::Outside));
+}
+
+/// The numbers of the places are those that the archive returns.
+#[test]
+fn places_have_their_numbers() {
+    let asked = [(20, 15), (15, 15), (25, 15)];
+    for ((x, y), number) in asked.into_iter().zip(1..) {
+        let place = outline_point(&SQUARE, x, y).unwrap();
+        assert_eq!(place as u32, number);
+        assert_eq!(finder::raw::outline_point(&SQUARE, x, y).place, number);
+    }
 }
 
 /// Empty slices are lent by a pointer that is not null.
@@ -113,4 +145,6 @@ fn slices_of_no_length() {
     let listed = query(&table, Rect::new(0, 0, 1, 1), &[EQUAL], &mut []).unwrap();
     assert_eq!((listed.hits, listed.opened), (0, 1));
     assert_eq!(front(&[], 0), []);
+    assert_eq!(outline_area(&[]), Err(Refusal::PointCount));
+    assert_eq!(outline_point(&[], 0, 0), Err(Refusal::PointCount));
 }
