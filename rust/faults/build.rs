@@ -6,9 +6,9 @@ use std::{env, fs};
 
 include!("list.rs");
 
-/// The files of the model that state the paper's calls. Each leans only on
+/// The files of the model that state the papers' calls. Each leans only on
 /// files before it.
-const FILES: [&str; 11] = [
+const FILES: [&str; 13] = [
     "sizes",
     "refusals",
     "rectangles",
@@ -20,6 +20,8 @@ const FILES: [&str; 11] = [
     "soundness",
     "placing",
     "queries",
+    "fractions",
+    "outlines",
 ];
 
 fn main() {

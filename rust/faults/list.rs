@@ -3,16 +3,17 @@
 // The text must occur exactly one time in the file; the build stops if it does
 // not. Each fault is a slip that an implementation could make.
 //
-// Some slips are not here because no table shows them: a k of 342, a root at k
+// Some slips are not here because nothing shows them. A k of 342, a root at k
 // or a level of 5 breaks another bullet too (1,024 pieces fill at most 341
-// pages of 4 levels above the leaves), and no relation tells 4, 6, 8 and 10
-// apart once an axis is turned round.
+// pages of 4 levels above the leaves). No relation tells 4, 6, 8 and 10 apart
+// once an axis is turned round. Off the outline, a ray to the west and edges
+// that count at their higher end give the same answers.
 
 type Fault = (&'static str, &'static str, &'static str, &'static str);
 
 const FAULTS: &[Fault] = &[
     // Rectangles.
-    ("edge 1,000,001 is valid", "sizes", "EDGE: u32 = 1_000_000", "EDGE: u32 = 1_000_001"),
+    ("edge 1,000,001 is valid", "rectangles", "edge <= EDGE", "edge <= EDGE + 1"),
     ("x1 may be x2", "rectangles", "self.x1 < self.x2 &&", "self.x1 <= self.x2 &&"),
     ("y1 may be y2", "rectangles", "self.y1 < self.y2 &&", "self.y1 <= self.y2 &&"),
     ("areas in 32 bits", "rectangles", "self.width() * self.height()", "(self.width() * self.height()) & 0xffff_ffff"),
@@ -124,4 +125,50 @@ const FAULTS: &[Fault] = &[
     ("vacated words are kept", "pages", "    words.fill(0);\n", ""),
     ("the pieces are not counted", "placing", "piece_count(table) + 1", "piece_count(table)"),
     ("a placed number is cut to 8 bits", "placing", "Entry { rect, r: number }", "Entry {\n        rect,\n        r: number & 0xff,\n    }"),
+    // Outlines.
+    ("the closing edge left out", "outlines", "points.iter().cycle().skip(1)", "points.iter().skip(1)"),
+    ("the sign turned", "outlines", "a * d - b * c", "b * c - a * d"),
+    ("the area without its sign", "outlines", "map(term).sum()", "map(term).sum::<i64>().abs()"),
+    ("the area itself, not twice", "outlines", "map(term).sum()", "map(term).sum::<i64>() / 2"),
+    ("products in 32 bits", "outlines", "a * d - b * c", "i64::from((a as i32).wrapping_mul(d as i32)) - i64::from((b as i32).wrapping_mul(c as i32))"),
+    ("the sum in 32 bits", "outlines", "map(term).sum()", "map(term).sum::<i64>() as i32 as i64"),
+    ("y and x in turn", "outlines", "Point::new(pair[0], pair[1])", "Point::new(pair[1], pair[0])"),
+    ("2 points let in", "sizes", "POINTS_FEWEST: usize = 3", "POINTS_FEWEST: usize = 2"),
+    ("3 points refused", "sizes", "POINTS_FEWEST: usize = 3", "POINTS_FEWEST: usize = 4"),
+    ("65 points let in", "sizes", "POINTS: usize = 64", "POINTS: usize = 65"),
+    ("64 points refused", "sizes", "POINTS: usize = 64", "POINTS: usize = 63"),
+    ("words counted as points", "outlines", "contains(&(words.len() / 2))", "contains(&words.len())"),
+    ("an odd word count let through", "outlines", "words.len() % 2 == 1", "false"),
+    ("the word count cut to 16 bits", "outlines", "contains(&(words.len() / 2))", "contains(&usize::from(words.len() as u16 / 2))"),
+    ("11 before 10", "outlines", "    let is_odd", "    if words.iter().chain(point).any(|&word| word > EDGE) {\n        return COORDINATE_TOO_LARGE;\n    }\n    let is_odd"),
+    ("the point refused before the outline", "outlines", "    let is_odd", "    if point.iter().any(|&word| word > EDGE) {\n        return COORDINATE_TOO_LARGE;\n    }\n    let is_odd"),
+    ("the point's coordinates not tested", "outlines", "words.iter().chain(point)", "words.iter()"),
+    ("the point's y not tested", "outlines", "words.iter().chain(point)", "words.iter().chain(point.first())"),
+    ("the outline's coordinates not tested", "outlines", "words.iter().chain(point)", "point.iter()"),
+    ("only the x of each point tested", "outlines", "words.iter().chain(point)", "words.iter().chain(point).step_by(2)"),
+    ("coordinate 1,000,000 refused", "outlines", "coordinate > EDGE", "coordinate >= EDGE"),
+    ("coordinate 1,000,001 let in", "outlines", "coordinate > EDGE", "coordinate > EDGE + 1"),
+    ("an area with a refusal", "outlines", "ACCEPTED => (ACCEPTED, twice_area(words)),\n        refusal => (refusal, 0)", "ACCEPTED => (ACCEPTED, twice_area(words)),\n        refusal => (refusal, twice_area(words))"),
+    ("outside with a refusal", "outlines", "place(words, Point { x, y })),\n        refusal => (refusal, 0)", "place(words, Point { x, y })),\n        refusal => (refusal, OUTSIDE)"),
+    ("on not answered first", "outlines", "edges.iter().any(|&edge| is_on(point, edge))", "edges.iter().all(|&edge| !counts(edge, point)) && edges.iter().any(|&edge| is_on(point, edge))"),
+    ("on not answered at all", "outlines", "edges.iter().any(|&edge| is_on(point, edge))", "false"),
+    ("only the corners on the outline", "outlines", "edges.iter().any(|&edge| is_on(point, edge))", "edges.iter().any(|edge| edge.from == point)"),
+    ("the corners not on the outline", "outlines", "(Fraction::ZERO..=Fraction::ONE).contains(&share)", "Fraction::ZERO < share\n        && share < Fraction::ONE"),
+    ("points beyond the ends on the outline", "outlines", "(Fraction::ZERO..=Fraction::ONE).contains(&share)\n        && x", "x"),
+    ("points beyond one end on the outline", "outlines", "(Fraction::ZERO..=Fraction::ONE).contains(&share)", "Fraction::ZERO <= share"),
+    ("a level edge not tested", "outlines", "(Fraction::ZERO..=Fraction::ONE).contains(&share)", "edge.from.y != edge.to.y\n        && (Fraction::ZERO..=Fraction::ONE).contains(&share)"),
+    ("an upright edge not tested", "outlines", "(Fraction::ZERO..=Fraction::ONE).contains(&share)", "edge.from.x != edge.to.x\n        && (Fraction::ZERO..=Fraction::ONE).contains(&share)"),
+    ("an edge of one point not tested", "outlines", "(Fraction::ZERO..=Fraction::ONE).contains(&share)", "edge.from != edge.to\n        && (Fraction::ZERO..=Fraction::ONE).contains(&share)"),
+    ("under and over an edge on it", "outlines", "\n        && y == Fraction::whole(point.y)", ""),
+    ("on an edge to a thousandth", "fractions", "self.cmp(other) == Ordering::Equal", "(1000 * (self.over * other.under - other.over * self.under)).abs() < self.under * other.under"),
+    ("even instead of odd", "outlines", "crossings % 2 == 1", "crossings % 2 == 0"),
+    ("any crossing is inside", "outlines", "crossings % 2 == 1", "crossings > 0"),
+    ("inside by turns around the point", "outlines", "crossings % 2 == 1", "edges\n        .iter()\n        .filter(|&&edge| counts(edge, point))\n        .map(|edge| if edge.from.y < edge.to.y { 1 } else { -1 })\n        .sum::<i32>()\n        != 0"),
+    ("an edge counted at both ends", "outlines", "higher > point.y", "higher >= point.y && lower < higher"),
+    ("an edge counted at neither end", "outlines", "lower <= point.y", "lower < point.y"),
+    ("all crossings of the line", "outlines", " && meets_ray(edge, point)", ""),
+    ("the crossing judged by the east end", "outlines", "share.along(from.x, to.x) >= ", "Fraction::whole(from.x.max(to.x)) >= "),
+    ("the crossing judged by the west end", "outlines", "share.along(from.x, to.x) >= ", "Fraction::whole(from.x.min(to.x)) >= "),
+    ("the crossing judged by where the edge begins", "outlines", "share.along(from.x, to.x) >= ", "Fraction::whole(from.x) >= "),
+    ("the crossing off by one unit", "outlines", "share.along(from.x, to.x) >= ", "share.along(from.x + 1, to.x + 1) > "),
 ];

@@ -1,4 +1,4 @@
-//! The calls of document 01, as anything that offers them.
+//! The calls of the papers, as anything that offers them.
 
 use model::Rect;
 
@@ -37,6 +37,12 @@ pub trait Calls {
 
     /// Returns the front part.
     fn front<'a>(&self, answer: &'a [u16], count: usize) -> &'a [u16];
+
+    /// Returns the refusal and twice the area.
+    fn outline_area(&self, words: &[u32]) -> (u32, i64);
+
+    /// Returns the refusal and the place.
+    fn outline_point(&self, words: &[u32], x: u32, y: u32) -> (u32, u32);
 }
 
 /// The model itself.
@@ -81,5 +87,13 @@ impl Calls for Model {
 
     fn front<'a>(&self, answer: &'a [u16], count: usize) -> &'a [u16] {
         model::front(answer, count)
+    }
+
+    fn outline_area(&self, words: &[u32]) -> (u32, i64) {
+        model::outline_area(words)
+    }
+
+    fn outline_point(&self, words: &[u32], x: u32, y: u32) -> (u32, u32) {
+        model::outline_point(words, x, y)
     }
 }

@@ -2,6 +2,7 @@
 
 use crate::lent::Lent;
 use crate::Calls;
+use model::sizes::POINTS;
 use model::Rect;
 use std::fmt::{self, Debug};
 
@@ -41,7 +42,7 @@ impl<'a> Compared<'a> {
     /// The empty call. `table` is left as the model leaves it.
     pub fn empty(&mut self, table: &mut [u32]) -> Outcome<u32> {
         let what = || "empty".to_string();
-        let mut lent = self.lent_table(table);
+        let mut lent = self.lent_words(table);
         let ours = model::empty(table);
         let theirs = self.other.empty(lent.slice_mut());
         self.same_return(ours, theirs, &what)?;
@@ -51,7 +52,7 @@ impl<'a> Compared<'a> {
 
     pub fn check(&mut self, table: &[u32]) -> Outcome<(u32, u32)> {
         let what = || "check".to_string();
-        let lent = self.lent_table(table);
+        let lent = self.lent_words(table);
         let ours = model::check(table);
         let theirs = self.other.check(lent.slice());
         self.same_return(ours, theirs, &what)?;
@@ -62,7 +63,7 @@ impl<'a> Compared<'a> {
     /// The place call. `table` is left as the model leaves it.
     pub fn place(&mut self, table: &mut [u32], number: u32, rect: Rect) -> Outcome<u32> {
         let what = || format!("place of {number} at {rect:?}");
-        let mut lent = self.lent_table(table);
+        let mut lent = self.lent_words(table);
         let ours = model::place(table, number, rect);
         let theirs = self.other.place(lent.slice_mut(), number, rect);
         self.same_return(ours, theirs, &what)?;
@@ -80,7 +81,7 @@ impl<'a> Compared<'a> {
     ) -> Outcome<(u32, u32, u32)> {
         let what = || asked("query", reference, clauses, length);
         let mut answer = pattern(length);
-        let (lent, lent_clauses) = (self.lent_table(table), self.lent_clauses(clauses));
+        let (lent, lent_clauses) = (self.lent_words(table), self.lent_clauses(clauses));
         let mut lent_answer = self.lent_answer(&answer);
         let ours = model::query(table, reference, clauses, &mut answer);
         let theirs = self.other.query(
@@ -106,7 +107,7 @@ impl<'a> Compared<'a> {
     ) -> Outcome<(u32, u32)> {
         let what = || asked("opened pages", reference, clauses, length);
         let mut answer = pattern(length);
-        let (lent, lent_clauses) = (self.lent_table(table), self.lent_clauses(clauses));
+        let (lent, lent_clauses) = (self.lent_words(table), self.lent_clauses(clauses));
         let mut lent_answer = self.lent_answer(&answer);
         let ours = model::opened_pages(table, reference, clauses, &mut answer);
         let theirs = self.other.opened_pages(
@@ -145,8 +146,28 @@ impl<'a> Compared<'a> {
         self.same_return(true, same_place, &what)
     }
 
-    fn lent_table(&self, table: &[u32]) -> Lent<u32> {
-        Lent::new(table, 0xA5A5_A5A5, self.calls)
+    pub fn outline_area(&mut self, words: &[u32]) -> Outcome<(u32, i64)> {
+        let what = || format!("area of outline {}", outline(words));
+        let lent = self.lent_words(words);
+        let ours = model::outline_area(words);
+        let theirs = self.other.outline_area(lent.slice());
+        self.same_return(ours, theirs, &what)?;
+        self.same_words(words, &lent, &what)?;
+        Ok(ours)
+    }
+
+    pub fn outline_point(&mut self, words: &[u32], x: u32, y: u32) -> Outcome<(u32, u32)> {
+        let what = || format!("point ({x}, {y}) by outline {}", outline(words));
+        let lent = self.lent_words(words);
+        let ours = model::outline_point(words, x, y);
+        let theirs = self.other.outline_point(lent.slice(), x, y);
+        self.same_return(ours, theirs, &what)?;
+        self.same_words(words, &lent, &what)?;
+        Ok(ours)
+    }
+
+    fn lent_words(&self, words: &[u32]) -> Lent<u32> {
+        Lent::new(words, 0xA5A5_A5A5, self.calls)
     }
 
     fn lent_clauses(&self, clauses: &[u64]) -> Lent<u64> {
@@ -221,4 +242,11 @@ fn brief(clauses: &[u64]) -> String {
         .map(|clause| format!("{clause:#x}"))
         .collect();
     format!("[{}] ({})", shown.join(", "), clauses.len())
+}
+
+/// The words of the most points that an outline can have, and how many there
+/// are.
+fn outline(words: &[u32]) -> String {
+    let shown = &words[..words.len().min(2 * POINTS)];
+    format!("{shown:?} ({} words)", words.len())
 }

@@ -19,6 +19,7 @@ mod calls;
 pub mod cases;
 mod compared;
 mod lent;
+pub mod points;
 pub mod suites;
 
 pub use calls::{Calls, Model};

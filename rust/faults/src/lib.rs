@@ -58,6 +58,14 @@ macro_rules! calls {
             fn front<'a>(&self, answer: &'a [u16], count: usize) -> &'a [u16] {
                 $copy::queries::front(answer, count)
             }
+
+            fn outline_area(&self, words: &[u32]) -> (u32, i64) {
+                $copy::outlines::outline_area(words)
+            }
+
+            fn outline_point(&self, words: &[u32], x: u32, y: u32) -> (u32, u32) {
+                $copy::outlines::outline_point(words, x, y)
+            }
         }
 
         ($copy::NAME, Box::new(Faulty) as Box<dyn Calls>)

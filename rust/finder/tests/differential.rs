@@ -55,6 +55,16 @@ impl Calls for Finder {
     fn front<'a>(&self, answer: &'a [u16], count: usize) -> &'a [u16] {
         finder::front(answer, count)
     }
+
+    fn outline_area(&self, words: &[u32]) -> (u32, i64) {
+        let area = raw::outline_area(words);
+        (area.refusal, area.twice_area)
+    }
+
+    fn outline_point(&self, words: &[u32], x: u32, y: u32) -> (u32, u32) {
+        let located = raw::outline_point(words, x, y);
+        (located.refusal, located.place)
+    }
 }
 
 fn run(suite: &str) {
@@ -87,6 +97,7 @@ macro_rules! suites {
 suites! {
     clauses "clauses";
     front "front";
+    outlines "outlines";
     damaged_tables "damaged tables";
     configurations "configurations";
     lengths "lengths";

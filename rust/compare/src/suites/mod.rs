@@ -6,6 +6,7 @@ mod answers;
 mod clauses;
 mod configurations;
 mod lengths;
+mod outlines;
 mod refusals;
 mod sound;
 mod unsound;
@@ -13,9 +14,10 @@ mod unsound;
 /// A suite: its name and what it does.
 pub type Suite = (&'static str, fn(&mut Compared) -> Outcome);
 
-pub const SUITES: [Suite; 12] = [
+pub const SUITES: [Suite; 13] = [
     ("clauses", clauses::clauses),
     ("front", answers::front),
+    ("outlines", outlines::outlines),
     ("damaged tables", unsound::damaged),
     ("configurations", configurations::configurations),
     ("lengths", lengths::lengths),
@@ -54,6 +56,7 @@ pub fn seeds() -> String {
         unsound::DAMAGED_SEED,
         unsound::ONE_WORD_SEED,
         unsound::RANDOM_SEED,
+        outlines::SEED,
     ];
     format!("seeds {seeds:?}")
 }
