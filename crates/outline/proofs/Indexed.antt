@@ -1,14 +1,17 @@
 -- Words, points and edges: each edge by its index, each word of an accepted outline in range.
 use Prim.Native.Nat.{ℕ, zero, suc, _+_, _*_, _/_, _%_, _≤_, _<_}
 use mathlib.Core.Path.{_≡_, refl, sym, ap, ap₂, subst, _∙_}
-use mathlib.Core.Bool.{Bool, true, false, cond}
+use mathlib.Core.Bool.{Bool, true, false, _&&_, cond, and-false, and-true}
 use mathlib.Core.List.{List, [], _∷_}
+use native.Mathlib.Decide.{decLt}
+use native.Mathlib.Nat.{add-zero}
 use native.Mathlib.Omega.{arith}
+use mir.Val.{boolByte}
 use lib.Dec.{leb, ltb, eqb}
 use lib.ListN.{length, getD, drop, drop-of-length-le}
 use lib.Seq.{drop-cons}
 use native.Mathlib.Numerals.{add-one}
-use borrow.Author.Tests.{leb-true, ltb-false, eqb-false, le-leb, lt-leb}
+use borrow.Author.Tests.{leb-true, ltb-false, eqb-false, le-leb, lt-leb, lt-ltb, le-ltb, ne-eqb}
 use Rattle.outline.specs.declared.Point.{Point}
 use Rattle.outline.specs.Outline.{FEWEST_POINTS, MOST_POINTS, FARTHEST, point, edge, points, path, edges}
 use Rattle.outline.proofs.Tests.{and-left, and-right, or-false-both}
@@ -25,7 +28,7 @@ pub record Fine (ws : List ℕ) : Type 0 where
   pub most : length ws / 2 ≤ MOST_POINTS
   pub range : within ws ≡ true
 
-count-fine : (n : ℕ) → wrongCount n ≡ false → (n % 2 ≡ 0) × (FEWEST_POINTS ≤ n / 2) × (n / 2 ≤ MOST_POINTS)
+pub count-fine : (n : ℕ) → wrongCount n ≡ false → (n % 2 ≡ 0) × (FEWEST_POINTS ≤ n / 2) × (n / 2 ≤ MOST_POINTS)
 unfolding wrongCount
 count-fine n e =
     let two = or-false-both (eqb (n % 2) 1) _ e in
@@ -133,18 +136,25 @@ edge-within ws i j w = record { a = in-range ws i w; b = in-range ws (i + 1) w; 
 pub count-is : (ws : List ℕ) → length (edges (points ws)) ≡ length ws / 2
 count-is ws = edges-count (points ws) ∙ points-count ws
 
--- the test of the words from i on
-pub within-stop : (ws : List ℕ) (i : ℕ) → i < length ws → FARTHEST < getD ws i 0 → within (drop i ws) ≡ false
+-- with n words beyond the range before i, the test of all is that of n and of the words from i on
+pub within-step : (ws : List ℕ) (i n : ℕ) → i < length ws
+    → (eqb (n + boolByte (ltb FARTHEST (getD ws i 0))) 0 && within (drop (i + 1) ws)) ≡ (eqb n 0 && within (drop i ws))
 unfolding within
-within-stop ws i h far = rw (drop-cons ws i 0 h, lt-leb _ FARTHEST far)
+within-step ws i n h = rw (add-one, drop-cons ws i 0 h) (go (decLt FARTHEST (getD ws i 0)))
+  where
+    w : ℕ
+    w = getD ws i 0
 
-pub within-step : (ws : List ℕ) (i : ℕ) → i < length ws → getD ws i 0 ≤ FARTHEST → within (drop (i + 1) ws) ≡ within (drop i ws)
-unfolding within
-within-step ws i h near = rw (add-one, drop-cons ws i 0 h, le-leb _ FARTHEST near)
+    rest : Bool
+    rest = within (drop (suc i) ws)
 
-pub within-end : (ws : List ℕ) (i : ℕ) → length ws ≤ i → within (drop i ws) ≡ true
+    go : Dec (FARTHEST < w) → (eqb (n + boolByte (ltb FARTHEST w)) 0 && rest) ≡ (eqb n 0 && (leb w FARTHEST && rest))
+    go (yes far) = rw (lt-ltb FARTHEST w far, lt-leb w FARTHEST far, ne-eqb (n + 1) 0 (λ e. omega (arith, e)), and-false)
+    go (no near) = rw (le-ltb FARTHEST w (omega (arith, near)), le-leb w FARTHEST (omega (arith, near)), add-zero n)
+
+pub within-end : (ws : List ℕ) (i n : ℕ) → length ws ≤ i → (eqb n 0 && within (drop i ws)) ≡ eqb n 0
 unfolding within
-within-end ws i h = rw (drop-of-length-le ws h)
+within-end ws i n h = rw (drop-of-length-le ws h) (and-true (eqb n 0))
 
 -- the edges from i on
 pub edges-on : (ws : List ℕ) (i : ℕ) → i < length ws / 2 → drop i (edges (points ws)) ≡ edgeAt ws i ∷ drop (i + 1) (edges (points ws))

@@ -5,10 +5,15 @@ use mathlib.Core.List.{List, [], _∷_}
 use lib.ListN.{getD}
 use Rattle.outline.specs.declared.Point.{Point}
 use Rattle.outline.specs.declared.Edge.{Edge}
+use Rattle.outline.specs.declared.point_test.Met.{Met}
 use Rattle.outline.specs.declared.point_test.Sides.{Sides}
 use Rattle.outline.specs.declared.sums.Products.{Products}
 use Rattle.outline.specs.Outline.{MOST_POINTS, FARTHEST, point, edge, points, edges}
-use Rattle.outline.specs.Place.{counts}
+use Rattle.outline.specs.Place.{counts, onEdge}
+
+-- the words of the most points
+abbrev pub MOST_WORDS : ℕ
+MOST_WORDS = 2 * MOST_POINTS
 
 -- the largest product of two coordinates
 abbrev pub LARGEST : ℕ
@@ -51,6 +56,10 @@ sidesOf e p = record { left = left e p; right = right e p }
 
 abbrev pub crossing : Edge → Point → ℕ
 crossing e p = cond (counts e p) 1 0
+
+-- the point is on the edge, or else the edge counts or not
+abbrev pub metBy : Edge → Point → Met
+metBy e p = record { on = onEdge e p; crossing = cond (onEdge e p) 0 (crossing e p) }
 
 -- the sums of a * d and of b * c
 unfoldable pub plusOf : List Edge → ℕ

@@ -5,11 +5,12 @@ use super::Point;
 use super::sums::product;
 use super::words::edge_at;
 ghost use mathlib.Core.Path.{_≡_};
+ghost use mathlib.Core.Bool.{true};
 ghost use Prim.Native.Nat.{_≤_};
 ghost use Rattle.outline.specs.Outline.{points, edges};
-ghost use Rattle.outline.specs.Place.{between, onEdge, placeOf};
+ghost use Rattle.outline.specs.Place.{between, placeOf};
 ghost use Rattle.outline.specs.Refusals.{ACCEPTED, outlineRefusal};
-ghost use Rattle.outline.specs.Steps.{PointWithin, EdgeWithin, sidesOf, crossing};
+ghost use Rattle.outline.specs.Steps.{PointWithin, EdgeWithin, sidesOf, crossing, metBy};
 
 // Two sums whose difference is twice the signed area of an edge's ends and a point.
 struct Sides {
@@ -43,39 +44,49 @@ fn is_between(v: u32, w: u32, z: u32) -> bool
     z <= v
 }
 
-// In the box of the edge's ends, and in line with them.
-fn is_on(e: Edge, p: Point) -> bool
-    requires { ⌜ EdgeWithin e × PointWithin p ⌝ }
-    ensures { λ r. ⌜ r ≡ onEdge e p ⌝ }
-{
-    if !is_between(e.a, e.c, p.x) {
-        return false;
-    }
-    if !is_between(e.b, e.d, p.y) {
-        return false;
-    }
-    let s = sides_of(e, p);
-    s.left == s.right
+// What an edge says of a point: that it is on the edge, or else 1 where the edge counts.
+struct Met {
+    on: bool,
+    crossing: u32,
 }
 
-// 1 where the edge counts, else 0. One that goes up meets the ray when the point is not on its right, one that goes down when it is not
-// on its left.
-fn crossing_of(e: Edge, p: Point) -> u32
-    requires { ⌜ EdgeWithin e × PointWithin p ⌝ }
+// 1 where an edge at the point's height counts, else 0. One that goes down meets the ray when the point is not on its left, one that goes
+// up when it is not on its right.
+fn crossing_of(e: Edge, p: Point, s: Sides) -> u32
+    requires { ⌜ (between (e .b) (e .d) (p .y) ≡ true) × (s ≡ sidesOf e p) ⌝ }
     ensures { λ r. ⌜ (r ≡ crossing e p) × (r ≤ 1) ⌝ }
 {
-    if e.b <= p.y {
-        if e.d <= p.y {
-            return 0;
-        }
-        let s = sides_of(e, p);
-        return (s.right <= s.left) as u32;
+    if p.y < e.b {
+        return (s.left <= s.right) as u32;
     }
     if p.y < e.d {
-        return 0;
+        return (s.right <= s.left) as u32;
+    }
+    0
+}
+
+// An edge that is nowhere at the point's height is left without a product.
+fn met_by(e: Edge, p: Point) -> Met
+    requires { ⌜ EdgeWithin e × PointWithin p ⌝ }
+    ensures { λ r. ⌜ (r ≡ metBy e p) × (r .crossing ≤ 1) ⌝ }
+{
+    if !is_between(e.b, e.d, p.y) {
+        return Met {
+            on: false,
+            crossing: 0,
+        };
     }
     let s = sides_of(e, p);
-    (s.left <= s.right) as u32
+    if s.left == s.right {
+        return Met {
+            on: is_between(e.a, e.c, p.x),
+            crossing: 0,
+        };
+    }
+    Met {
+        on: false,
+        crossing: crossing_of(e, p, s),
+    }
 }
 
 pub fn place_of(words: &[u32], p: Point) -> Place
@@ -87,10 +98,11 @@ pub fn place_of(words: &[u32], p: Point) -> Place
     let mut i: usize = 0;
     while i < count {
         let e = edge_at(words, i);
-        if is_on(e, p) {
+        let met = met_by(e, p);
+        if met.on {
             return Place::On;
         }
-        crossings += crossing_of(e, p);
+        crossings += met.crossing;
         i += 1;
     }
     if crossings % 2 == 1 {

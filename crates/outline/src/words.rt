@@ -5,11 +5,11 @@ use super::Edge;
 use super::FARTHEST;
 use super::POINT_COUNT;
 ghost use mathlib.Core.Path.{_≡_};
-ghost use Prim.Native.Nat.{_+_, _/_, _<_};
+ghost use Prim.Native.Nat.{_+_, _/_, _≤_, _<_};
 ghost use lib.ListN.{length};
 ghost use Rattle.outline.specs.Outline.{edge};
 ghost use Rattle.outline.specs.Refusals.{ACCEPTED, wrongCount, within, outlineRefusal};
-ghost use Rattle.outline.specs.Steps.{pointAt, edgeAt, EdgeWithin};
+ghost use Rattle.outline.specs.Steps.{MOST_WORDS, pointAt, edgeAt, EdgeWithin};
 
 const FEWEST_POINTS: usize = 3;
 
@@ -28,18 +28,18 @@ fn is_wrong_count(words: usize) -> bool
     words / 2 > MOST_POINTS
 }
 
-// No word is above the largest coordinate.
+// No word is above the largest coordinate. All are counted: a loop that ends at the first cannot take several words at once.
 fn are_within(words: &[u32]) -> bool
+    requires { do ⌜ (← ⟦words.len()⟧) ≤ MOST_WORDS ⌝ }
     ensures { λ r. ⌜ r ≡ within (now (words .entry)) ⌝ }
 {
+    let mut beyond: u32 = 0;
     let mut i: usize = 0;
     while i < words.len() {
-        if words[i] > FARTHEST {
-            return false;
-        }
+        beyond += (words[i] > FARTHEST) as u32;
         i += 1;
     }
-    true
+    beyond == 0
 }
 
 pub fn refused(words: &[u32]) -> u32

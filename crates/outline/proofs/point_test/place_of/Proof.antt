@@ -6,11 +6,13 @@ use native.Mathlib.Omega.{arith}
 use lib.ListN.{length, drop}
 use borrow.Author.Tests.{eq-eqb, ne-eqb}
 use Rattle.outline.specs.declared.Edge.{Edge}
+use Rattle.outline.specs.declared.point_test.Met.{Met}
 use Rattle.outline.specs.Outline.{points, edges}
-use Rattle.outline.specs.Place.{onEdge, onAny}
+use Rattle.outline.specs.Place.{onAny}
 use Rattle.outline.specs.Place as Place
-use Rattle.outline.specs.Steps.{crossing}
+use Rattle.outline.specs.Steps.{edgeAt, metBy}
 use Rattle.outline.proofs.Indexed.{accepted-fine}
+use Rattle.outline.proofs.Testing.{off-crossing}
 use Rattle.outline.proofs.Walking.{on-stop, on-more, crossings-step, walked, place-on, place-inside, place-outside}
 use Rattle.outline.proofs.point_test.place_of.Statement.{statement}
 use Rattle.outline.proofs.point_test.place_of.Tie as tie
@@ -30,8 +32,8 @@ loop-holds c = (omega arith, refl, omega arith)
 edge-at-requires : tie.Need-edge-at-requires Inv-loop μ-loop
 edge-at-requires c κs = (c .before .before .before .pre .0, omega arith)
 
-is-on-requires : tie.Need-is-on-requires Inv-loop μ-loop
-is-on-requires c κs = (c .edge-at .ensures .1, c .before .before .before .before .pre .1)
+met-by-requires : tie.Need-met-by-requires Inv-loop μ-loop
+met-by-requires c κs = (c .edge-at .ensures .1, c .before .before .before .before .pre .1)
 
 returns : tie.Need-returns Inv-loop μ-loop
 returns c =
@@ -39,17 +41,15 @@ returns c =
     let p = c .before .before .before .before .before .before .args .p in
     let i = c .before .before .before .before .loop .i in
     let h : i < length ws / 2 = omega arith in
-    let on = sym (ap (λ (e : Edge). onEdge e p) (c .before .before .edge-at .ensures .0)) ∙ sym (c .before .is-on .ensures) ∙ c .if1 .taken in
+    let met = c .before .met-by .ensures .0 ∙ ap (λ (e : Edge). metBy e p) (c .before .before .edge-at .ensures .0) in
+    let on = ap (λ (m : Met). m .on) (sym met) ∙ c .if1 .taken in
     place-on (edges (points ws)) p (sym (c .before .before .before .before .loop .inv .1) ∙ on-stop ws p i h on)
-
-crossing-of-requires : tie.Need-crossing-of-requires Inv-loop μ-loop
-crossing-of-requires c κs = (c .before .before .edge-at .ensures .1, c .before .before .before .before .before .before .pre .1)
 
 add-crossings : tie.Need-add-crossings Inv-loop μ-loop
 add-crossings c =
     let start = c .before .before .before .before .before .before .before in
     let f = accepted-fine (start .args .words .now) (start .pre .0) in
-    omega (arith, f .most, c .before .before .before .before .before .loop .inv .0, c .crossing-of .ensures .1)
+    omega (arith, f .most, c .before .before .before .before .before .loop .inv .0, c .before .before .met-by .ensures .1)
 
 add-i : tie.Need-add-i Inv-loop μ-loop
 add-i c = search needs
@@ -63,9 +63,10 @@ loop-again c =
     let p = c .before .before .before .before .before .before .before .args .p in
     let i = c .before .before .before .before .before .loop .i in
     let h : i < length ws / 2 = omega arith in
-    let off = sym (ap (λ (e : Edge). onEdge e p) (c .before .before .before .edge-at .ensures .0)) ∙ sym (c .before .before .is-on .ensures) ∙ c .before .if1 .left in
-    let more = c .crossing-of .ensures .0 ∙ ap (λ (e : Edge). crossing e p) (c .before .before .before .edge-at .ensures .0) in (
-      omega (arith, c .before .before .before .before .before .loop .inv .0, c .crossing-of .ensures .1),
+    let met = c .before .before .met-by .ensures .0 ∙ ap (λ (e : Edge). metBy e p) (c .before .before .before .edge-at .ensures .0) in
+    let off = ap (λ (m : Met). m .on) (sym met) ∙ c .before .if1 .left in
+    let more = ap (λ (m : Met). m .crossing) met ∙ off-crossing (edgeAt ws i) p off in (
+      omega (arith, c .before .before .before .before .before .loop .inv .0, c .before .before .met-by .ensures .1),
       on-more ws p i h off ∙ c .before .before .before .before .before .loop .inv .1,
       omega (arith, c .before .before .before .before .before .loop .inv .2, more, crossings-step ws p i h),
     )
@@ -96,9 +97,8 @@ place-of-spec =
     μ-loop
     loop-holds
     edge-at-requires
-    is-on-requires
+    met-by-requires
     returns
-    crossing-of-requires
     add-crossings
     add-i
     loop-less

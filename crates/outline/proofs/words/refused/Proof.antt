@@ -1,7 +1,10 @@
 -- The tests in their order.
 use borrow.Author.Needs.{needs}
 use mathlib.Core.Path.{sym, _∙_}
+use native.Mathlib.Omega.{arith}
+use lib.ListN.{length}
 use Rattle.outline.specs.Refusals.{outlineRefusal}
+use Rattle.outline.proofs.Indexed.{count-fine}
 use Rattle.outline.proofs.words.refused.Statement.{statement}
 use Rattle.outline.proofs.words.refused.Tie as tie
 
@@ -13,7 +16,9 @@ unfolding outlineRefusal
 returns c = simp (sym (c .before .is-wrong-count .ensures) ∙ c .if1 .taken)
 
 are-within-requires : tie.Need-are-within-requires
-are-within-requires c κs = search needs
+are-within-requires c κs =
+    let fine = count-fine (length (c .before .before .before .args .words .now)) (sym (c .before .is-wrong-count .ensures) ∙ c .if1 .left) in
+    omega arith
 
 returns-2 : tie.Need-returns-2
 unfolding outlineRefusal
