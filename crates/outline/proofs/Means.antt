@@ -17,7 +17,7 @@ use Rattle.outline.proofs.Tests.{and-left, and-right, both}
 use Rattle.outline.proofs.Heights.{ring, edgeOf, AtHeight, parted}
 
 -- a mean of two numbers lies between them
-pub mean-low : (s t v w z : ℕ) → 0 < s + t → (s + t) * z ≡ s * v + t * w → min v w ≤ z
+mean-low : (s t v w z : ℕ) → 0 < s + t → (s + t) * z ≡ s * v + t * w → min v w ≤ z
 mean-low s t v w z some e =
     let one = mul-le-mul-left s (the-lesser v w) in
     let other = mul-le-mul-left t (the-lesser' v w) in
@@ -29,7 +29,7 @@ mean-low s t v w z some e =
     the-lesser' : (v w : ℕ) → min v w ≤ w
     the-lesser' v w = omega arith
 
-pub mean-high : (s t v w z : ℕ) → 0 < s + t → (s + t) * z ≡ s * v + t * w → z ≤ max v w
+mean-high : (s t v w z : ℕ) → 0 < s + t → (s + t) * z ≡ s * v + t * w → z ≤ max v w
 mean-high s t v w z some e =
     let one = mul-le-mul-left s (the-greater v w) in
     let other = mul-le-mul-left t (the-greater' v w) in
