@@ -14,7 +14,7 @@ use Rattle.outline.specs.Calls.{areaCall, pointCall}
 use Rattle.outline.specs.Claims.{wordsOf, areaOf, locatedOf, placeIn}
 use Rattle.outline.proofs.Figures.{rectangle-area}
 use Rattle.outline.proofs.Rectangles.{rectangle-place}
-use Rattle.finder_c.specs.Claims.{corners, placeBySides}
+use Rattle.finder_c.specs.Claims.{corners}
 
 abbrev sized : ℕ → ℕ → ℕ → ℕ → Rect
 sized x y w h = rectOf x y (x + w) (y + h)
@@ -27,8 +27,8 @@ module _ (x y w h : ℕ) (east : x + w ≤ EDGE) (north : y + h ≤ EDGE) where
       rectangle-area x y w h east north ∙ ap (λ (n : ℕ). areaOf 0 (pos (2 * n))) sides
 
   sized-point : (px py : ℕ) → 0 < w → 0 < h → px ≤ EDGE → py ≤ EDGE
-      → pointCall (corners (sized x y w h)) px py ≡ locatedOf 0 (numberOf (placeBySides (sized x y w h) px py))
-  unfolding wordsOf placeIn
+      → pointCall (corners (sized x y w h)) px py ≡ locatedOf 0 (numberOf (placeIn x y (x + w) (y + h) px py))
+  unfolding wordsOf
   sized-point px py wide high near-x near-y = rectangle-place x y w h px py wide high east north near-x near-y
 
 -- a width and a height of a valid rectangle
@@ -65,8 +65,8 @@ corner-area r v =
     let s = sides r v in
     as-sized r s (λ q. areaCall (corners q) ≡ areaOf 0 (pos (2 * area q))) (sized-area (r .x1) (r .y1) (s .w) (s .h) (s .east) (s .north))
 
-pub corner-point : (r : Rect) (x y : ℕ) → T (valid r) → x ≤ EDGE → y ≤ EDGE → pointCall (corners r) x y ≡ locatedOf 0 (numberOf (placeBySides r x y))
+pub corner-point : (r : Rect) (x y : ℕ) → T (valid r) → x ≤ EDGE → y ≤ EDGE → pointCall (corners r) x y ≡ locatedOf 0 (numberOf (placeIn (r .x1) (r .y1) (r .x2) (r .y2) x y))
 corner-point r x y v near-x near-y =
     let s = sides r v in
-    as-sized r s (λ q. pointCall (corners q) x y ≡ locatedOf 0 (numberOf (placeBySides q x y)))
+    as-sized r s (λ q. pointCall (corners q) x y ≡ locatedOf 0 (numberOf (placeIn (q .x1) (q .y1) (q .x2) (q .y2) x y)))
     (sized-point (r .x1) (r .y1) (s .w) (s .h) (s .east) (s .north) x y (s .wide) (s .high) near-x near-y)

@@ -1,35 +1,23 @@
 -- What ties the outlines to the rectangles of pieces: the outline of a rectangle's four corners.
 use Prim.Native.Nat.{ℕ, _*_, _≤_}
 use mathlib.Core.Path.{_≡_}
-use mathlib.Core.Bool.{Bool, _&&_, cond}
 use mathlib.Core.List.{List, [], _∷_}
-use lib.Dec.{T, leb, ltb}
+use lib.Dec.{T}
 use lib.IntN.{pos}
 use Rattle.pages.specs.declared.Rect.{Rect}
 use Rattle.pages.specs.Sizes.{EDGE}
 use Rattle.pages.specs.Rectangles.{valid}
 use Rattle.placing.specs.Place.{area}
-use Rattle.outline.specs.declared.Place.{Place}
-use Rattle.outline.specs.declared.Place.the-variants as Place
 use Rattle.outline.specs.Place.{numberOf}
 use Rattle.outline.specs.Calls.{areaCall, pointCall}
+use Rattle.outline.specs.Claims.{placeIn}
 
 -- from the south-west one, counter-clockwise
 abbrev pub corners : Rect → List ℕ
 corners r = r .x1 ∷ r .y1 ∷ r .x2 ∷ r .y1 ∷ r .x2 ∷ r .y2 ∷ r .x1 ∷ r .y2 ∷ []
 
--- within all four sides; on one of them, or within
-abbrev pub inSides : Rect → ℕ → ℕ → Bool
-inSides r x y = (ltb (r .x1) x && ltb x (r .x2)) && (ltb (r .y1) y && ltb y (r .y2))
-
-abbrev pub notBeyond : Rect → ℕ → ℕ → Bool
-notBeyond r x y = (leb (r .x1) x && leb x (r .x2)) && (leb (r .y1) y && leb y (r .y2))
-
-abbrev pub placeBySides : Rect → ℕ → ℕ → Place
-placeBySides r x y = cond (inSides r x y) Place.Inside (cond (notBeyond r x y) Place.On Place.Outside)
-
 pub record Claims : Type 0 where
   -- twice the area by which a place call chooses
   pub corner-area : (r : Rect) → T (valid r) → areaCall (corners r) ≡ record { refusal = 0; «twice_area» = pos (2 * area r) }
   pub corner-point : (r : Rect) (x y : ℕ) → T (valid r) → x ≤ EDGE → y ≤ EDGE
-      → pointCall (corners r) x y ≡ record { refusal = 0; place = numberOf (placeBySides r x y) }
+      → pointCall (corners r) x y ≡ record { refusal = 0; place = numberOf (placeIn (r .x1) (r .y1) (r .x2) (r .y2) x y) }

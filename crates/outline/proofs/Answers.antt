@@ -59,7 +59,7 @@ module _ (ws : List ℕ) (x y : ℕ) where
   unfolding outlineRefusal within
   refusal-beyond e f = chosen-beyond (wrongCount (length ws)) (leb x FARTHEST) (leb y FARTHEST) (within ws) e f
 
-  pub refusal-none : outlineRefusal ws ws ≡ 0 → x ≤ FARTHEST → y ≤ FARTHEST → outlineRefusal ws (x ∷ (y ∷ ws)) ≡ 0
+  refusal-none : outlineRefusal ws ws ≡ 0 → x ≤ FARTHEST → y ≤ FARTHEST → outlineRefusal ws (x ∷ (y ∷ ws)) ≡ 0
   unfolding outlineRefusal within
   refusal-none e a b = rw (le-leb x FARTHEST a, le-leb y FARTHEST b) e
 

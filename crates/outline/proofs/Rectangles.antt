@@ -27,7 +27,7 @@ use Rattle.outline.proofs.Same.{points-words, on-flipped, counts-flippe
 
 -- the tests of a level edge and of an upright one
 
-between-spans : (low size v : ℕ) → between low (low + size) v ≡ spans low size v
+between-spans : (low size v : ℕ) → between low (low + size) v ≡ spans low (low + size) v
 unfolding between
 between-spans low size v =
     let lower : min low (low + size) ≡ low = omega arith in
@@ -48,7 +48,7 @@ module _ (px py : ℕ) where
   p = point px py
 
   -- at its own height a level edge has no parts
-  level-on : (x w v : ℕ) → onEdge (edgeOf x v (x + w) v) p ≡ (eqb py v && spans x w px)
+  level-on : (x w v : ℕ) → onEdge (edgeOf x v (x + w) v) p ≡ (eqb py v && spans x (x + w) px)
   unfolding onEdge
   level-on x w v = rw (between-spans x w px, between-one v py) (go (ℕ-discrete py v))
     where
@@ -58,12 +58,12 @@ module _ (px py : ℕ) where
       there : eqb ((apart v v + apart v v) * px) (apart v v * x + apart v v * (x + w)) ≡ true
       there = eq-eqb ((apart v v + apart v v) * px) (apart v v * x + apart v v * (x + w)) (rw none (omega arith))
 
-      go : Dec (py ≡ v) → (spans x w px && (eqb py v && eqb ((apart v py + apart v py) * px) (apart v py * x + apart v py * (x + w)))) ≡ (eqb py v && spans x w px)
-      go (yes e) = subst (λ (n : ℕ). (spans x w px && (eqb n v && eqb ((apart v n + apart v n) * px) (apart v n * x + apart v n * (x + w)))) ≡ (eqb n v && spans x w px)) (sym e)
-          (rw (eq-eqb v v refl, there) (and-true (spans x w px)))
+      go : Dec (py ≡ v) → (spans x (x + w) px && (eqb py v && eqb ((apart v py + apart v py) * px) (apart v py * x + apart v py * (x + w)))) ≡ (eqb py v && spans x (x + w) px)
+      go (yes e) = subst (λ (n : ℕ). (spans x (x + w) px && (eqb n v && eqb ((apart v n + apart v n) * px) (apart v n * x + apart v n * (x + w)))) ≡ (eqb n v && spans x (x + w) px)) (sym e)
+          (rw (eq-eqb v v refl, there) (and-true (spans x (x + w) px)))
       go (no n) = rw (ne-eqb py v n, and-false)
 
-  upright-on : (v y h : ℕ) → onEdge (edgeOf v y v (y + h)) p ≡ (eqb px v && spans y h py)
+  upright-on : (v y h : ℕ) → onEdge (edgeOf v y v (y + h)) p ≡ (eqb px v && spans y (y + h) py)
   unfolding onEdge
   upright-on v y h = rw (between-one v px, between-spans y h py) (go (ℕ-discrete px v))
     where
@@ -73,8 +73,8 @@ module _ (px py : ℕ) where
       t : ℕ
       t = apart y py
 
-      go : Dec (px ≡ v) → (eqb px v && (spans y h py && eqb ((s + t) * px) (s * v + t * v))) ≡ (eqb px v && spans y h py)
-      go (yes e) = subst (λ (n : ℕ). (eqb n v && (spans y h py && eqb ((s + t) * n) (s * v + t * v))) ≡ (eqb n v && spans y h py)) (sym e)
+      go : Dec (px ≡ v) → (eqb px v && (spans y (y + h) py && eqb ((s + t) * px) (s * v + t * v))) ≡ (eqb px v && spans y (y + h) py)
+      go (yes e) = subst (λ (n : ℕ). (eqb n v && (spans y (y + h) py && eqb ((s + t) * n) (s * v + t * v))) ≡ (eqb n v && spans y (y + h) py)) (sym e)
           (rw (eq-eqb ((s + t) * v) (s * v + t * v) (add-mul s t v), and-true))
       go (no n) = rw (ne-eqb px v n)
 
@@ -253,7 +253,7 @@ module _ (x y w h px py : ℕ) where
         upright-counts px py x y h,
       )
 
-  place-is : 0 < w → 0 < h → placeOf (edges (rectangle x y w h)) (point px py) ≡ placeIn x y w h px py
+  place-is : 0 < w → 0 < h → placeOf (edges (rectangle x y w h)) (point px py) ≡ placeIn x y (x + w) (y + h) px py
   unfolding placeOf placeIn
   place-is wide high =
       let u = zone x w px wide in
@@ -262,7 +262,7 @@ module _ (x y w h px py : ℕ) where
       ∙ ap₂ found (u .1) (v .1) ∙ as-wanted (u .0) (v .0) ∙ sym (ap₂ wanted (u .1) (v .1))
 
   pub rectangle-place : 0 < w → 0 < h → x + w ≤ FARTHEST → y + h ≤ FARTHEST → px ≤ FARTHEST → py ≤ FARTHEST
-      → pointCall (wordsOf (rectangle x y w h)) px py ≡ locatedOf ACCEPTED (numberOf (placeIn x y w h px py))
+      → pointCall (wordsOf (rectangle x y w h)) px py ≡ locatedOf ACCEPTED (numberOf (placeIn x y (x + w) (y + h) px py))
   rectangle-place wide high east north near-x near-y =
       let place = sym (place-is wide high) ∙ ap (λ (ps : List Point). placeOf (edges ps) (point px py)) (sym (points-words (rectangle x y w h))) in
-      sym (point-accepted (wordsOf (rectangle x y w h)) px py (rectangle-fine x y w h east north) near-x near-y (placeIn x y w h px py) place)
+      sym (point-accepted (wordsOf (rectangle x y w h)) px py (rectangle-fine x y w h east north) near-x near-y (placeIn x y (x + w) (y + h) px py) place)

@@ -47,17 +47,17 @@ rectangle x y w h = point x y ∷ (point (x + w) y ∷ (point (x + w) (y + h) �
 abbrev pub triangle : ℕ → ℕ → ℕ → ℕ → ℕ → List Point
 triangle x y w h u = point x y ∷ (point (x + w) y ∷ (point u (y + h) ∷ []))
 
--- v is one of low and low + size or lies between them; it lies between them
+-- v is one of low and high or lies between them; it lies between them
 abbrev pub spans : ℕ → ℕ → ℕ → Bool
-spans low size v = leb low v && leb v (low + size)
+spans low high v = leb low v && leb v high
 
 abbrev pub surrounds : ℕ → ℕ → ℕ → Bool
-surrounds low size v = ltb low v && ltb v (low + size)
+surrounds low high v = ltb low v && ltb v high
 
--- where a point lies in a rectangle, by its sides alone
+-- where (x, y) lies in a rectangle from (x1, y1) to (x2, y2), by its sides alone
 unfoldable pub placeIn : ℕ → ℕ → ℕ → ℕ → ℕ → ℕ → Place
-placeIn x y w h px py =
-    cond (surrounds x w px && surrounds y h py) Place.Inside (cond (spans x w px && spans y h py) Place.On Place.Outside)
+placeIn x1 y1 x2 y2 x y =
+    cond (surrounds x1 x2 x && surrounds y1 y2 y) Place.Inside (cond (spans x1 x2 x && spans y1 y2 y) Place.On Place.Outside)
 
 -- n of the things have the property
 pub data Number {B : Type 0} (P : B → Type 0) : List B → ℕ → Type 0 where
@@ -113,7 +113,7 @@ pub record Claims : Type 0 where
   pub point-reversed : (ps : List Point) (x y : ℕ) → pointCall (wordsOf (reverse ps)) x y ≡ pointCall (wordsOf ps) x y
   -- on a rectangle the answer is that of its sides
   pub point-rectangles : (x y w h px py : ℕ) → 0 < w → 0 < h → x + w ≤ FARTHEST → y + h ≤ FARTHEST → px ≤ FARTHEST → py ≤ FARTHEST
-      → pointCall (wordsOf (rectangle x y w h)) px py ≡ locatedOf ACCEPTED (numberOf (placeIn x y w h px py))
+      → pointCall (wordsOf (rectangle x y w h)) px py ≡ locatedOf ACCEPTED (numberOf (placeIn x y (x + w) (y + h) px py))
   -- off the outline it is odd on both sides or on none, and with either end of an edge
   pub west : (ps : List Point) (p : Point) → onAny (edges ps) p ≡ false
       → odd (howMany (λ e. countsWest e p) (edges ps)) ≡ odd (crossings (edges ps) p)
