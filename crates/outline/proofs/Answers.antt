@@ -7,7 +7,7 @@ use mathlib.Core.List.{List, [], _∷_}
 use lib.Dec.{leb}
 use lib.IntN.{ℤ, pos, _+ℤ_, _-ℤ_}
 use lib.ListN.{length}
-use borrow.Author.Tests.{ne-eqb, le-leb}
+use borrow.Author.Tests.{ne-eqb, le-leb, leb-true}
 use Rattle.outline.specs.declared.Edge.{Edge}
 use Rattle.outline.specs.declared.Place.{Place}
 use Rattle.outline.specs.Outline.{FARTHEST, point, points, edges}
@@ -16,7 +16,7 @@ use Rattle.outline.specs.Place.{placeOf, numberOf}
 use Rattle.outline.specs.Refusals.{ACCEPTED, COORDINATE_TOO_LARGE, wrongCount, within, outlineRefusal}
 use Rattle.outline.specs.Calls.{areaCall, pointCall}
 use Rattle.outline.specs.Claims.{areaOf, locatedOf}
-use Rattle.outline.specs.Steps.{plusOf, minusOf}
+use Rattle.outline.specs.Steps.{PointWithin, plusOf, minusOf}
 use Rattle.outline.proofs.Signed.{minus-add}
 
 -- the sum of the differences is the difference of the sums
@@ -50,27 +50,35 @@ chosen-beyond false true true r e f = absurd (false≢true (sym f))
 chosen-beyond false true false r e f = refl
 chosen-beyond false false b r e f = refl
 
+chosen-parts : (w a b r : Bool) → chosen w (a && (b && r)) ≡ 0 → (chosen w r ≡ 0) × (a ≡ true) × (b ≡ true)
+chosen-parts true a b r e = absurd (omega (arith, e))
+chosen-parts false true true r e = (e, refl, refl)
+chosen-parts false true false r e = absurd (omega (arith, e))
+chosen-parts false false b r e = absurd (omega (arith, e))
+
 module _ (ws : List ℕ) (x y : ℕ) where
-  refusal-more : (outlineRefusal ws ws ≡ 0 → ⊥) → outlineRefusal ws (x ∷ (y ∷ ws)) ≡ outlineRefusal ws ws
+  pub refusal-more : (outlineRefusal ws ws ≡ 0 → ⊥) → outlineRefusal ws (x ∷ (y ∷ ws)) ≡ outlineRefusal ws ws
   unfolding outlineRefusal within
   refusal-more n = chosen-more (wrongCount (length ws)) (leb x FARTHEST) (leb y FARTHEST) (within ws) n
 
-  refusal-beyond : outlineRefusal ws ws ≡ 0 → (leb x FARTHEST && leb y FARTHEST) ≡ false → outlineRefusal ws (x ∷ (y ∷ ws)) ≡ COORDINATE_TOO_LARGE
+  pub refusal-beyond : outlineRefusal ws ws ≡ 0 → (leb x FARTHEST && leb y FARTHEST) ≡ false → outlineRefusal ws (x ∷ (y ∷ ws)) ≡ COORDINATE_TOO_LARGE
   unfolding outlineRefusal within
   refusal-beyond e f = chosen-beyond (wrongCount (length ws)) (leb x FARTHEST) (leb y FARTHEST) (within ws) e f
 
-  refusal-none : outlineRefusal ws ws ≡ 0 → x ≤ FARTHEST → y ≤ FARTHEST → outlineRefusal ws (x ∷ (y ∷ ws)) ≡ 0
+  pub refusal-none : outlineRefusal ws ws ≡ 0 → x ≤ FARTHEST → y ≤ FARTHEST → outlineRefusal ws (x ∷ (y ∷ ws)) ≡ 0
   unfolding outlineRefusal within
   refusal-none e a b = rw (le-leb x FARTHEST a, le-leb y FARTHEST b) e
 
-  pub point-refused : (r : ℕ) → r ≡ outlineRefusal ws ws → (r ≡ 0 → ⊥) → locatedOf r 0 ≡ pointCall ws x y
-  unfolding pointCall
-  point-refused r e n = rw (refusal-more (λ z. n (e ∙ z)), ← e, ne-eqb r ACCEPTED n)
+  pub accepted-both : outlineRefusal ws (x ∷ (y ∷ ws)) ≡ 0 → (outlineRefusal ws ws ≡ ACCEPTED) × PointWithin (point x y)
+  unfolding outlineRefusal within
+  accepted-both e =
+      let parts = chosen-parts (wrongCount (length ws)) (leb x FARTHEST) (leb y FARTHEST) (within ws) e in
+      (parts .0, record { x = leb-true x FARTHEST (parts .1); y = leb-true y FARTHEST (parts .2) })
 
-  pub point-beyond : outlineRefusal ws ws ≡ 0 → (leb x FARTHEST && leb y FARTHEST) ≡ false → locatedOf COORDINATE_TOO_LARGE 0 ≡ pointCall ws x y
+  pub point-refused : (r : ℕ) → r ≡ outlineRefusal ws (x ∷ (y ∷ ws)) → (r ≡ 0 → ⊥) → locatedOf r 0 ≡ pointCall ws x y
   unfolding pointCall
-  point-beyond e f = rw (refusal-beyond e f)
+  point-refused r e n = rw (← e, ne-eqb r ACCEPTED n)
 
-  pub point-accepted : outlineRefusal ws ws ≡ 0 → x ≤ FARTHEST → y ≤ FARTHEST → (p : Place) → p ≡ placeOf (edges (points ws)) (point x y) → locatedOf 0 (numberOf p) ≡ pointCall ws x y
+  pub point-accepted : outlineRefusal ws (x ∷ (y ∷ ws)) ≡ 0 → (p : Place) → p ≡ placeOf (edges (points ws)) (point x y) → locatedOf 0 (numberOf p) ≡ pointCall ws x y
   unfolding pointCall
-  point-accepted e a b p h = rw (refusal-none e a b, h)
+  point-accepted e p h = rw (e, h)

@@ -21,7 +21,7 @@ use Rattle.outline.proofs.Tests.{leb-same}
 use Rattle.outline.proofs.Heights.{edgeOf}
 use Rattle.outline.proofs.Means.{has-parts}
 use Rattle.outline.proofs.Testing.{all-below, all-above}
-use Rattle.outline.proofs.Answers.{point-accepted}
+use Rattle.outline.proofs.Answers.{refusal-none, point-accepted}
 use Rattle.outline.proofs.Figures.{rectangle-fine}
 use Rattle.outline.proofs.Same.{points-words, on-flipped, counts-flipped}
 
@@ -265,4 +265,5 @@ module _ (x y w h px py : ℕ) where
       → pointCall (wordsOf (rectangle x y w h)) px py ≡ locatedOf ACCEPTED (numberOf (placeIn x y (x + w) (y + h) px py))
   rectangle-place wide high east north near-x near-y =
       let place = sym (place-is wide high) ∙ ap (λ (ps : List Point). placeOf (edges ps) (point px py)) (sym (points-words (rectangle x y w h))) in
-      sym (point-accepted (wordsOf (rectangle x y w h)) px py (rectangle-fine x y w h east north) near-x near-y (placeIn x y (x + w) (y + h) px py) place)
+      let fine = refusal-none (wordsOf (rectangle x y w h)) px py (rectangle-fine x y w h east north) near-x near-y in
+      sym (point-accepted (wordsOf (rectangle x y w h)) px py fine (placeIn x y (x + w) (y + h) px py) place)

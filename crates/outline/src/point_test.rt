@@ -19,7 +19,8 @@ struct Sides {
 }
 
 fn sides_of(e: Edge, p: Point) -> Sides
-    requires { ⌜ EdgeWithin e × PointWithin p ⌝ }
+    requires edge { ⌜ EdgeWithin e ⌝ }
+    requires point { ⌜ PointWithin p ⌝ }
     ensures { λ r. ⌜ r ≡ sidesOf e p ⌝ }
 {
     Sides {
@@ -53,8 +54,10 @@ struct Met {
 // 1 where an edge at the point's height counts, else 0. One that goes down meets the ray when the point is not on its left, one that goes
 // up when it is not on its right.
 fn crossing_of(e: Edge, p: Point, s: Sides) -> u32
-    requires { ⌜ (between (e .b) (e .d) (p .y) ≡ true) × (s ≡ sidesOf e p) ⌝ }
-    ensures { λ r. ⌜ (r ≡ crossing e p) × (r ≤ 1) ⌝ }
+    requires height { ⌜ between (e .b) (e .d) (p .y) ≡ true ⌝ }
+    requires sides { ⌜ s ≡ sidesOf e p ⌝ }
+    ensures crossing { λ r. ⌜ r ≡ crossing e p ⌝ }
+    ensures most { λ r. ⌜ r ≤ 1 ⌝ }
 {
     if p.y < e.b {
         return (s.left <= s.right) as u32;
@@ -67,8 +70,10 @@ fn crossing_of(e: Edge, p: Point, s: Sides) -> u32
 
 // An edge that is nowhere at the point's height is left without a product.
 fn met_by(e: Edge, p: Point) -> Met
-    requires { ⌜ EdgeWithin e × PointWithin p ⌝ }
-    ensures { λ r. ⌜ (r ≡ metBy e p) × (r .crossing ≤ 1) ⌝ }
+    requires edge { ⌜ EdgeWithin e ⌝ }
+    requires point { ⌜ PointWithin p ⌝ }
+    ensures met { λ r. ⌜ r ≡ metBy e p ⌝ }
+    ensures most { λ r. ⌜ r .crossing ≤ 1 ⌝ }
 {
     if !is_between(e.b, e.d, p.y) {
         return Met {
@@ -90,7 +95,8 @@ fn met_by(e: Edge, p: Point) -> Met
 }
 
 pub fn place_of(words: &[u32], p: Point) -> Place
-    requires { ⌜ (outlineRefusal (now words) (now words) ≡ ACCEPTED) × PointWithin p ⌝ }
+    requires accepted { ⌜ outlineRefusal (now words) (now words) ≡ ACCEPTED ⌝ }
+    requires point { ⌜ PointWithin p ⌝ }
     ensures { λ r. ⌜ r ≡ placeOf (edges (points (now (words .entry)))) p ⌝ }
 {
     let count: usize = words.len() / 2;

@@ -16,15 +16,18 @@ pub struct Products {
 }
 
 pub fn product(v: u32, w: u32) -> u64
-    requires { ⌜ (v ≤ FARTHEST) × (w ≤ FARTHEST) ⌝ }
-    ensures { λ r. ⌜ (r ≡ v * w) × (r ≤ LARGEST) ⌝ }
+    requires first { ⌜ v ≤ FARTHEST ⌝ }
+    requires second { ⌜ w ≤ FARTHEST ⌝ }
+    ensures product { λ r. ⌜ r ≡ v * w ⌝ }
+    ensures most { λ r. ⌜ r ≤ LARGEST ⌝ }
 {
     (v as u64) * (w as u64)
 }
 
 pub fn product_sums(words: &[u32]) -> Products
     requires { ⌜ outlineRefusal (now words) (now words) ≡ ACCEPTED ⌝ }
-    ensures { λ r. ⌜ (r ≡ productsOf (edges (points (now (words .entry))))) × ((r .plus ≤ MOST_SUM) × (r .minus ≤ MOST_SUM)) ⌝ }
+    ensures sums { λ r. ⌜ r ≡ productsOf (edges (points (now (words .entry)))) ⌝ }
+    ensures most { λ r. ⌜ (r .plus ≤ MOST_SUM) × (r .minus ≤ MOST_SUM) ⌝ }
 {
     let count: usize = words.len() / 2;
     let mut plus: u64 = 0;
@@ -40,8 +43,10 @@ pub fn product_sums(words: &[u32]) -> Products
 }
 
 pub fn difference(plus: u64, minus: u64) -> i64
-    requires { ⌜ (plus ≤ MOST_SUM) × (minus ≤ MOST_SUM) ⌝ }
-    ensures { λ r. ⌜ (r ≡ pos plus -ℤ pos minus) × SFits w64 r ⌝ }
+    requires plus { ⌜ plus ≤ MOST_SUM ⌝ }
+    requires minus { ⌜ minus ≤ MOST_SUM ⌝ }
+    ensures difference { λ r. ⌜ r ≡ pos plus -ℤ pos minus ⌝ }
+    ensures fits { λ r. ⌜ SFits w64 r ⌝ }
 {
     (plus as i64) - (minus as i64)
 }

@@ -4,7 +4,9 @@ use super::COORDINATE_TOO_LARGE;
 use super::Edge;
 use super::FARTHEST;
 use super::POINT_COUNT;
+use super::Point;
 ghost use mathlib.Core.Path.{_≡_};
+ghost use mathlib.Core.List.{_∷_};
 ghost use Prim.Native.Nat.{_+_, _/_, _≤_, _<_};
 ghost use lib.ListN.{length};
 ghost use Rattle.outline.specs.Outline.{edge};
@@ -54,9 +56,27 @@ pub fn refused(words: &[u32]) -> u32
     COORDINATE_TOO_LARGE
 }
 
+// An outline and a point: the outline's words are tested first.
+pub fn refused_with(words: &[u32], p: Point) -> u32
+    ensures { λ r. ⌜ r ≡ outlineRefusal (now (words .entry)) (p .x ∷ (p .y ∷ now (words .entry))) ⌝ }
+{
+    let refusal = refused(words);
+    if refusal != ACCEPTED {
+        return refusal;
+    }
+    if p.x > FARTHEST {
+        return COORDINATE_TOO_LARGE;
+    }
+    if p.y > FARTHEST {
+        return COORDINATE_TOO_LARGE;
+    }
+    ACCEPTED
+}
+
 // From the point whose words begin at one place to that whose words begin at another.
 fn edge_between(words: &[u32], from: usize, to: usize) -> Edge
-    requires { do ⌜ (from + 1 < (← ⟦words.len()⟧)) × (to + 1 < (← ⟦words.len()⟧)) ⌝ }
+    requires from { do ⌜ from + 1 < (← ⟦words.len()⟧) ⌝ }
+    requires to { do ⌜ to + 1 < (← ⟦words.len()⟧) ⌝ }
     ensures { λ r. ⌜ r ≡ edge (pointAt (now (words .entry)) from) (pointAt (now (words .entry)) to) ⌝ }
 {
     Edge {
@@ -69,8 +89,10 @@ fn edge_between(words: &[u32], from: usize, to: usize) -> Edge
 
 // Edge i, from 0; the last one goes to the first point.
 pub fn edge_at(words: &[u32], i: usize) -> Edge
-    requires { ⌜ (outlineRefusal (now words) (now words) ≡ ACCEPTED) × (i < length (now words) / 2) ⌝ }
-    ensures { λ r. ⌜ (r ≡ edgeAt (now (words .entry)) i) × EdgeWithin r ⌝ }
+    requires accepted { ⌜ outlineRefusal (now words) (now words) ≡ ACCEPTED ⌝ }
+    requires index { ⌜ i < length (now words) / 2 ⌝ }
+    ensures edge { λ r. ⌜ r ≡ edgeAt (now (words .entry)) i ⌝ }
+    ensures within { λ r. ⌜ EdgeWithin r ⌝ }
 {
     let from = 2 * i;
     let next = from + 2;
