@@ -2,7 +2,7 @@
 use Prim.Native.Nat.{ℕ}
 use mathlib.Core.Path.{_≡_, refl, sym, ap, _∙_, subst}
 use mathlib.Core.Logic.{_≢_}
-use mathlib.Core.Bool.{Bool, true, false, not, cond, _||_}
+use mathlib.Core.Bool.{Bool, true, false, not, cond, _&&_, _||_}
 use mathlib.Core.List.{List, [], _∷_, _++_}
 use lib.ListN.{length, drop, replicate}
 use lib.Dec.{leb, ltb, eqb}
@@ -10,6 +10,9 @@ use lib.IntN.{pos}
 use borrow.Author.Tests.{ne-eqb}
 use Rattle.outline.specs.Refusals.{wrongCount, within, outlineRefusal}
 use Rattle.outline.specs.Calls.{areaCall, pointCall}
+use Rattle.tiles.specs.declared.Shares.{Shares}
+use Rattle.tiles.specs.Tiles.{TILES, areaOf, areaIn}
+use Rattle.tiles.specs.Calls.{sharesIn, noShares, sharesCall}
 use Rattle.pages.specs.Lists.{Every}
 use Rattle.relations.specs.declared.AdmittedSet.{AdmittedSet}
 use Rattle.relations.specs.Axis.{CODES}
@@ -27,7 +30,7 @@ use Rattle.placing.specs.Calls.{placeRefusal, placedWords, placeSound, placeCal
 use Rattle.query.specs.declared.Answer.{Answer}
 use Rattle.query.specs.declared.Opened.{Opened}
 use Rattle.query.specs.Calls.{noAnswer, noOpened, soundRefusal, queryOpened, queryAnswer, querySound, queryCall, openedSound, openedCall, OpenedWords}
-use Rattle.finder_c.specs.Demand1.{firstOf, Numbered, emptyOrder, checkOrder, placeOrder, queryOrder, admittedOrder, areaOrder, pointOrder, Demand1}
+use Rattle.finder_c.specs.Demand1.{firstOf, Numbered, emptyOrder, checkOrder, placeOrder, queryOrder, admittedOrder, areaOrder, pointOrder, sharesOrder, Demand1}
 
 -- of conditions that have one of the numbers
 first-numbered : (cs : List (ℕ × Bool)) → Every (λ c. Numbered (c .0)) cs → Numbered (firstOf cs)
@@ -192,6 +195,35 @@ module _ (o : List ℕ) where
     unfolding pointCall
     point-zero n = rw (ne-eqb _ 0 n)
 
+-- the shares of a piece
+
+module _ (piece reference : Rect) where
+  sharing : Bool → Bool → Shares
+  sharing v w = cond (v && w) (sharesIn (areaIn piece reference) (areaOf piece)) noShares
+
+  sharing-order : (v w : Bool) → sharing v w .refusal ≡ cond (not v) 2 (cond (not w) 2 0)
+  unfolding sharing sharesIn noShares
+  sharing-order false w = refl
+  sharing-order true false = refl
+  sharing-order true true = refl
+
+  abbrev Zero : Shares → Type 0
+  Zero s = (s .areas ≡ replicate TILES 0) × (s .thousandths ≡ replicate TILES 0) × (s .remainders ≡ replicate TILES 0)
+
+  sharing-none : (v w : Bool) → sharing v w .refusal ≢ 0 → Zero (sharing v w)
+  unfolding sharing sharesIn noShares
+  sharing-none false w n = (refl, refl, refl)
+  sharing-none true false n = (refl, refl, refl)
+  sharing-none true true n = absurd (n refl)
+
+  shares-first : sharesCall piece reference .refusal ≡ firstOf (sharesOrder piece reference)
+  unfolding sharesCall sharing
+  shares-first = sharing-order (valid piece) (valid reference)
+
+  shares-zero : sharesCall piece reference .refusal ≢ 0 → Zero (sharesCall piece reference)
+  unfolding sharesCall sharing
+  shares-zero = sharing-none (valid piece) (valid reference)
+
 -- the calls on a table
 
 module _ (w : List ℕ) where
@@ -236,6 +268,7 @@ demand1 = record {
   admitted = admitted-first;
   area = area-first;
   point = point-first;
+  shares = shares-first;
   numbers = λ w n r clauses o needed. (
     first-numbered (emptyOrder w) (refl, tt),
     first-numbered (checkOrder w) (refl, (refl, tt)),
@@ -244,6 +277,7 @@ demand1 = record {
     first-numbered (admittedOrder clauses) (refl, (refl, tt)),
   );
   outline-numbers = λ o x y. (first-numbered (areaOrder o) (refl, (refl, tt)), first-numbered (pointOrder o x y) (refl, (refl, tt)));
+  shares-numbers = λ piece reference. first-numbered (sharesOrder piece reference) (refl, (refl, tt));
   empty-leaves = empty-leaves;
   check-counts = refused-none;
   place-leaves = place-leaves;
@@ -253,4 +287,5 @@ demand1 = record {
   admitted-counts = admitted-counts;
   area-zero = area-zero;
   point-zero = point-zero;
+  shares-zero = shares-zero;
 }

@@ -1,4 +1,4 @@
--- What ties the outlines to the rectangles of pieces: the outline of a rectangle's four corners.
+-- What ties the calls that know no table to the rectangles of pieces: the outline of a rectangle's four corners, and its shares.
 use Prim.Native.Nat.{ℕ, _*_, _≤_}
 use mathlib.Core.Path.{_≡_}
 use mathlib.Core.List.{List, [], _∷_}
@@ -11,6 +11,8 @@ use Rattle.placing.specs.Place.{area}
 use Rattle.outline.specs.Place.{numberOf}
 use Rattle.outline.specs.Calls.{areaCall, pointCall}
 use Rattle.outline.specs.Claims.{placeIn}
+use Rattle.tiles.specs.Calls.{sharesCall}
+use Rattle.tiles.specs.Claims.{added}
 
 -- from the south-west one, counter-clockwise
 abbrev pub corners : Rect → List ℕ
@@ -21,3 +23,5 @@ pub record Claims : Type 0 where
   pub corner-area : (r : Rect) → T (valid r) → areaCall (corners r) ≡ record { refusal = 0; «twice_area» = pos (2 * area r) }
   pub corner-point : (r : Rect) (x y : ℕ) → T (valid r) → x ≤ EDGE → y ≤ EDGE
       → pointCall (corners r) x y ≡ record { refusal = 0; place = numberOf (placeIn (r .x1) (r .y1) (r .x2) (r .y2) x y) }
+  -- the area that is shared among the tiles is the one by which a place call chooses
+  pub tile-area : (piece reference : Rect) → T (valid piece) → T (valid reference) → added (sharesCall piece reference .areas) ≡ area piece

@@ -11,6 +11,8 @@ use lib.Dec.{leb, ltb, eqb}
 use lib.IntN.{pos}
 use Rattle.outline.specs.Refusals.{wrongCount, within}
 use Rattle.outline.specs.Calls.{areaCall, pointCall}
+use Rattle.tiles.specs.Tiles.{TILES}
+use Rattle.tiles.specs.Calls.{sharesCall}
 use Rattle.relations.specs.Axis.{CODES}
 use Rattle.relations.specs.Query.{CLAUSES, someBad, admittedOf}
 use Rattle.pages.specs.declared.Rect.{Rect}
@@ -97,6 +99,10 @@ areaOrder outline = pointCount outline ∷ tooFar outline ∷ []
 abbrev pub pointOrder : List ℕ → ℕ → ℕ → List (ℕ × Bool)
 pointOrder outline x y = pointCount outline ∷ tooFar (x ∷ (y ∷ outline)) ∷ []
 
+-- "If either rectangle is not valid the refusal is 2"
+abbrev pub sharesOrder : Rect → Rect → List (ℕ × Bool)
+sharesOrder piece reference = notValid piece ∷ notValid reference ∷ []
+
 pub record Demand1 : Type 0 where
   -- the refusal of each call, by its conditions in order
   pub empty : (w : List ℕ) → emptyCall w .0 ≡ firstOf (emptyOrder w)
@@ -110,11 +116,13 @@ pub record Demand1 : Type 0 where
   pub admitted : (clauses : List ℕ) → admittedOf clauses .refusal ≡ firstOf (admittedOrder clauses)
   pub area : (outline : List ℕ) → areaCall outline .refusal ≡ firstOf (areaOrder outline)
   pub point : (outline : List ℕ) (x y : ℕ) → pointCall outline x y .refusal ≡ firstOf (pointOrder outline x y)
+  pub shares : (piece reference : Rect) → sharesCall piece reference .refusal ≡ firstOf (sharesOrder piece reference)
   -- "one of the numbers"
   pub numbers : (w : List ℕ) (n : ℕ) (r : Rect) (clauses answer : List ℕ) (needed : ℕ)
       → Numbered (firstOf (emptyOrder w)) × Numbered (firstOf (checkOrder w)) × Numbered (firstOf (placeOrder w n r))
       × Numbered (firstOf (queryOrder w r clauses answer needed)) × Numbered (firstOf (admittedOrder clauses))
   pub outline-numbers : (outline : List ℕ) (x y : ℕ) → Numbered (firstOf (areaOrder outline)) × Numbered (firstOf (pointOrder outline x y))
+  pub shares-numbers : (piece reference : Rect) → Numbered (firstOf (sharesOrder piece reference))
   -- "A refusal reports zero counts and changes no word of any slice"
   pub empty-leaves : (w : List ℕ) → emptyCall w .0 ≢ 0 → emptyCall w .1 ≡ w
   pub check-counts : (w : List ℕ) → checkCall w .refusal ≢ 0 → checkCall w .pieces ≡ 0
@@ -129,3 +137,7 @@ pub record Demand1 : Type 0 where
   -- "zero when refused"; a place counts from 1
   pub area-zero : (outline : List ℕ) → areaCall outline .refusal ≢ 0 → areaCall outline .«twice_area» ≡ pos 0
   pub point-zero : (outline : List ℕ) (x y : ℕ) → pointCall outline x y .refusal ≢ 0 → pointCall outline x y .place ≡ 0
+  -- "and all areas, quotients and remainders are zero"
+  pub shares-zero : (piece reference : Rect) → sharesCall piece reference .refusal ≢ 0
+      → (sharesCall piece reference .areas ≡ replicate TILES 0) × (sharesCall piece reference .thousandths ≡ replicate TILES 0)
+      × (sharesCall piece reference .remainders ≡ replicate TILES 0)

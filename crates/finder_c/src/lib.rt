@@ -6,11 +6,13 @@ use query::Answer;
 use query::Opened;
 use relations::AdmittedSet;
 use soundness::Checked;
+use tiles::Shares;
 ghost use mathlib.Core.Path.{_≡_};
 ghost use Rattle.relations.specs.Query.{admittedOf};
 ghost use Rattle.pages.specs.Rectangles.{rectOf};
 ghost use Rattle.pages.specs.Calls.{emptyCall};
 ghost use Rattle.outline.specs.Calls.{areaCall, pointCall};
+ghost use Rattle.tiles.specs.Calls.{sharesCall};
 ghost use Rattle.soundness.specs.Calls.{checkCall};
 ghost use Rattle.placing.specs.Calls.{placeCall};
 ghost use Rattle.query.specs.Calls.{queryCall, OpenedWords};
@@ -92,4 +94,34 @@ pub extern "C" fn finder_outline_point(words: &[u32], x: u32, y: u32) -> Located
     ensures { λ r. ⌜ r ≡ pointCall (now (words .entry)) x y ⌝ }
 {
     outline::outline_point(words, x, y)
+}
+
+// p is the piece, q the reference.
+#[no_mangle]
+pub extern "C" fn finder_tile_shares(
+    px1: u32,
+    py1: u32,
+    px2: u32,
+    py2: u32,
+    qx1: u32,
+    qy1: u32,
+    qx2: u32,
+    qy2: u32,
+) -> Shares
+    ensures { λ r. ⌜ r ≡ sharesCall (rectOf px1 py1 px2 py2) (rectOf qx1 qy1 qx2 qy2) ⌝ }
+{
+    tiles::tile_shares(
+        Rect {
+            x1: px1,
+            y1: py1,
+            x2: px2,
+            y2: py2,
+        },
+        Rect {
+            x1: qx1,
+            y1: qy1,
+            x2: qx2,
+            y2: qy2,
+        },
+    )
 }
