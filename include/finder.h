@@ -1,11 +1,12 @@
 /*
- * The piece finder: page tables, spatial relations and outlines.
+ * The piece finder: page tables, spatial relations, outlines and shares.
  *
  * A table of up to 1,024 pieces is a slice of 32-bit words that the caller
  * owns. Pieces are placed in it; a query writes the numbers of the pieces whose
  * rectangle stands to a reference rectangle as the clauses say. An outline is a
  * slice of points and needs no table: two calls give its area and say where a
- * point lies by it.
+ * point lies by it. Shares need no table either: one call says how much of a
+ * piece lies in each of the nine tiles about a reference.
  *
  * What is lent. A pointer and the length after it, in elements, lend a slice
  * for the time of the call; nothing of it is kept afterwards. The pointer is
@@ -18,7 +19,8 @@
  * Within that, anything may be passed: slices of any length with any words in
  * them, and any numbers. Every call comes to an end and either does its work or
  * refuses with one of the numbers below. A refusal reports zero counts (and
- * empty rows, a zero area, no place) and changes no word of any slice.
+ * empty rows, a zero area, no place, zero shares) and changes no word of any
+ * slice.
  */
 #ifndef FINDER_H
 #define FINDER_H
@@ -62,6 +64,9 @@ extern "C" {
 #define FINDER_POINTS_FEWEST 3
 #define FINDER_POINTS 64
 
+/* Tiles into which a reference's four edge lines cut the plane. */
+#define FINDER_TILES 9
+
 /* Refusals. Each call tests in the order given with it, and returns the first
    whose condition holds. */
 
@@ -69,7 +74,8 @@ extern "C" {
 #define FINDER_ACCEPTED 0
 /* The table slice is shorter than FINDER_TABLE_WORDS. */
 #define FINDER_TABLE_TOO_SHORT 1
-/* The rectangle is not valid: x1 < x2, y1 < y2 and none above FINDER_EDGE. */
+/* The rectangle, or one of two, is not valid. Valid is: x1 < x2, y1 < y2 and
+   none above FINDER_EDGE. */
 #define FINDER_RECTANGLE_NOT_VALID 2
 /* The piece number is above 1,023. */
 #define FINDER_NUMBER_TOO_LARGE 3
@@ -138,6 +144,18 @@ extern "C" {
 #define FINDER_PLACE_INSIDE 2
 #define FINDER_PLACE_OUTSIDE 3
 
+/* Tiles about a reference, in rising rows from the south, each from west to
+   east: tile 3 * row + column. FINDER_TILE_WITHIN is the reference itself. */
+#define FINDER_TILE_SOUTH_WEST 0
+#define FINDER_TILE_SOUTH 1
+#define FINDER_TILE_SOUTH_EAST 2
+#define FINDER_TILE_WEST 3
+#define FINDER_TILE_WITHIN 4
+#define FINDER_TILE_EAST 5
+#define FINDER_TILE_NORTH_WEST 6
+#define FINDER_TILE_NORTH 7
+#define FINDER_TILE_NORTH_EAST 8
+
 /* What the calls return. In each, refusal is 0 or one of the numbers above, and
    where it is not 0 all else is zero. */
 
@@ -174,6 +192,14 @@ typedef struct {
     uint32_t refusal;
     uint32_t place; /* one of the places above */
 } finder_point;
+
+typedef struct {
+    uint32_t refusal;
+    uint64_t areas[FINDER_TILES];       /* the piece's area in each tile */
+    uint64_t thousandths[FINDER_TILES]; /* 1,000 times that, divided by the
+                                           piece's area: the whole quotient */
+    uint64_t remainders[FINDER_TILES];  /* the remainder of that division */
+} finder_shares;
 
 /* Makes the table empty, whatever its words are. Refuses 1. Returns the
    refusal. */
@@ -229,6 +255,18 @@ finder_area finder_outline_area(const uint32_t *outline, size_t outline_len);
    a part that an outline runs round twice is outside. Refuses 10, 11. */
 finder_point finder_outline_point(const uint32_t *outline, size_t outline_len,
                                   uint32_t x, uint32_t y);
+
+/* Shares. The four edge lines of a reference cut the plane into nine tiles. */
+
+/* Gives for each tile about the reference q the area of the piece p in it, how
+   many whole thousandths of the piece's area that is, and the remainder of this
+   division. Areas are in squares of a tenth of a millimetre. The nine areas add
+   up to the piece's area; the nine thousandths times that area, plus the nine
+   remainders, add up to 1,000 times it. Refuses 2, for either rectangle. */
+finder_shares finder_tile_shares(uint32_t px1, uint32_t py1,
+                                 uint32_t px2, uint32_t py2,
+                                 uint32_t qx1, uint32_t qy1,
+                                 uint32_t qx2, uint32_t qy2);
 
 #ifdef __cplusplus
 }
