@@ -1,5 +1,5 @@
 //! Document 01 once more, in plain safe Rust, and the requests of document 02
-//! that landed: 2.10.
+//! that landed: 2.3 and 2.10.
 //!
 //! This crate is a second reading of the papers. It shares nothing with the
 //! finder itself, so that the two can be compared. It is written for clarity:
@@ -36,8 +36,9 @@ pub mod refusals;
 pub mod relations;
 pub mod sizes;
 pub mod soundness;
+pub mod tiles;
 
-// Tables and outlines to try it on.
+// Tables, rectangles and outlines to try it on.
 pub mod damage;
 pub mod random;
 pub mod shapes;
@@ -52,3 +53,4 @@ pub use queries::{front, opened_pages, query};
 pub use rectangles::Rect;
 pub use sizes::{PAGES, PIECES, TABLE_WORDS};
 pub use soundness::check;
+pub use tiles::tile_shares;

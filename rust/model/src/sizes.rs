@@ -48,3 +48,9 @@ pub const POINTS_FEWEST: usize = 3;
 
 /// "An outline is 3 to 64 points": the most.
 pub const POINTS: usize = 64;
+
+/// "four edge lines into nine tiles"
+pub const TILES: usize = 9;
+
+/// "in rising rows from the south": tiles of a row, and rows.
+pub const TILES_IN_ROW: usize = 3;

@@ -1,5 +1,5 @@
 //! Tables to try the calls on: sound ones that place calls make, and sound
-//! ones that they never make.
+//! ones that they never make. And rectangles of many kinds.
 
 use crate::pages::{empty, pieces as pieces_of, read_page, write_page, Entry, Page};
 use crate::pages::{page_numbers, piece_count, root};
@@ -263,21 +263,13 @@ impl Family {
                 let (x, y) = (c % 32 * 900, c / 32 * 700);
                 Rect::new(x, y, x + 800, y + 600)
             }
-            Family::Tiny => {
-                let (x1, x2) = ends(0, 8, random);
-                let (y1, y2) = ends(0, 8, random);
-                Rect::new(x1, y1, x2, y2)
-            }
+            Family::Tiny => within(8, random),
             Family::Spread => {
                 let (x, y) = (random.below(EDGE - 9_999), random.below(EDGE - 9_999));
                 let (width, height) = (random.between(1, 9_999), random.between(1, 9_999));
                 Rect::new(x, y, x + width, y + height)
             }
-            Family::Large => {
-                let (x1, x2) = ends(0, EDGE, random);
-                let (y1, y2) = ends(0, EDGE, random);
-                Rect::new(x1, y1, x2, y2)
-            }
+            Family::Large => within(EDGE, random),
             Family::Strips if c.is_multiple_of(2) => Rect::new(c * 900, 0, c * 900 + 1, EDGE),
             Family::Strips => Rect::new(0, c * 900, EDGE, c * 900 + 1),
             Family::Nested => Rect::new(c, c, EDGE - c, EDGE - c),
@@ -304,6 +296,33 @@ impl Family {
             .map(|(c, number)| (number, self.rect(c as u32, random)))
             .collect()
     }
+}
+
+/// A valid rectangle of any size, its edges from 0 to `size`.
+pub fn within(size: u32, random: &mut Random) -> Rect {
+    let (x1, x2) = ends(0, size, random);
+    let (y1, y2) = ends(0, size, random);
+    Rect::new(x1, y1, x2, y2)
+}
+
+/// All pairs of valid rectangles whose edges are among these numbers.
+pub fn pairs_on(numbers: &[u32]) -> Vec<(Rect, Rect)> {
+    let all = rectangles_on(numbers);
+    let with_each = |&one: &Rect| all.iter().map(move |&other| (one, other));
+    all.iter().flat_map(with_each).collect()
+}
+
+fn rectangles_on(numbers: &[u32]) -> Vec<Rect> {
+    let mut all = Vec::new();
+    for &x1 in numbers {
+        for &y1 in numbers {
+            for &x2 in numbers {
+                all.extend(numbers.iter().map(|&y2| Rect::new(x1, y1, x2, y2)));
+            }
+        }
+    }
+    all.retain(|rect| rect.is_valid());
+    all
 }
 
 /// Two different numbers from `low` to `high`, the lower first.
