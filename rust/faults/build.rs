@@ -8,7 +8,7 @@ include!("list.rs");
 
 /// The files of the model that state the papers' calls. Each leans only on
 /// files before it.
-const FILES: [&str; 13] = [
+const FILES: [&str; 14] = [
     "sizes",
     "refusals",
     "rectangles",
@@ -22,6 +22,7 @@ const FILES: [&str; 13] = [
     "queries",
     "fractions",
     "outlines",
+    "tiles",
 ];
 
 fn main() {

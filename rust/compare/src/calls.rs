@@ -1,5 +1,6 @@
 //! The calls of the papers, as anything that offers them.
 
+use model::tiles::Shares;
 use model::Rect;
 
 /// The calls. Refusals are numbers, zero for accepted; pairs and triples stand
@@ -43,6 +44,9 @@ pub trait Calls {
 
     /// Returns the refusal and the place.
     fn outline_point(&self, words: &[u32], x: u32, y: u32) -> (u32, u32);
+
+    /// Returns the refusal, the nine areas, quotients and remainders.
+    fn tile_shares(&self, piece: Rect, reference: Rect) -> Shares;
 }
 
 /// The model itself.
@@ -95,5 +99,9 @@ impl Calls for Model {
 
     fn outline_point(&self, words: &[u32], x: u32, y: u32) -> (u32, u32) {
         model::outline_point(words, x, y)
+    }
+
+    fn tile_shares(&self, piece: Rect, reference: Rect) -> Shares {
+        model::tile_shares(piece, reference)
     }
 }

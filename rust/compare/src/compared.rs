@@ -3,6 +3,7 @@
 use crate::lent::Lent;
 use crate::Calls;
 use model::sizes::POINTS;
+use model::tiles::Shares;
 use model::Rect;
 use std::fmt::{self, Debug};
 
@@ -163,6 +164,14 @@ impl<'a> Compared<'a> {
         let theirs = self.other.outline_point(lent.slice(), x, y);
         self.same_return(ours, theirs, &what)?;
         self.same_words(words, &lent, &what)?;
+        Ok(ours)
+    }
+
+    pub fn tile_shares(&mut self, piece: Rect, reference: Rect) -> Outcome<Shares> {
+        let what = || format!("{piece:?} among the tiles of {reference:?}");
+        let ours = model::tile_shares(piece, reference);
+        let theirs = self.other.tile_shares(piece, reference);
+        self.same_return(ours, theirs, &what)?;
         Ok(ours)
     }
 

@@ -7,6 +7,7 @@
 #![forbid(unsafe_code)]
 
 use compare::Calls;
+use model::tiles::Shares;
 use model::Rect;
 
 /// The calls of a copy.
@@ -65,6 +66,10 @@ macro_rules! calls {
 
             fn outline_point(&self, words: &[u32], x: u32, y: u32) -> (u32, u32) {
                 $copy::outlines::outline_point(words, x, y)
+            }
+
+            fn tile_shares(&self, piece: Rect, reference: Rect) -> Shares {
+                $copy::tiles::tile_shares(rect(piece), rect(reference))
             }
         }
 

@@ -9,16 +9,18 @@ mod lengths;
 mod outlines;
 mod refusals;
 mod sound;
+mod tiles;
 mod unsound;
 
 /// A suite: its name and what it does.
 pub type Suite = (&'static str, fn(&mut Compared) -> Outcome);
 
-pub const SUITES: [Suite; 13] = [
+pub const SUITES: [Suite; 14] = [
     ("clauses", clauses::clauses),
     ("front", answers::front),
     ("outlines", outlines::outlines),
     ("damaged tables", unsound::damaged),
+    ("tiles", tiles::tiles),
     ("configurations", configurations::configurations),
     ("lengths", lengths::lengths),
     ("answers", answers::answers),
@@ -57,6 +59,7 @@ pub fn seeds() -> String {
         unsound::ONE_WORD_SEED,
         unsound::RANDOM_SEED,
         outlines::SEED,
+        tiles::SEED,
     ];
     format!("seeds {seeds:?}")
 }
