@@ -1,6 +1,6 @@
 //! The calls, with refusals as errors.
 
-use crate::{raw, Refusal};
+use crate::{raw, Refusal, TILES};
 
 /// A rectangle in tenths of a millimetre; x grows to the east, y to the north.
 /// It is valid when x1 < x2, y1 < y2 and none exceeds 1,000,000. Any numbers
@@ -52,6 +52,19 @@ pub enum Place {
     Inside = 2,
     /// Off the outline, with an even number of crossings to the east.
     Outside = 3,
+}
+
+/// How a piece is shared among the nine tiles of a reference: each tile's
+/// number stands at its place, which has a name in [`tile`](crate::tile).
+#[derive(Clone, Copy, Debug, PartialEq, Eq)]
+pub struct Shares {
+    /// The area of the piece in each tile; they add up to the piece's area.
+    pub areas: [u64; TILES],
+    /// How many whole thousandths of the piece's area that is.
+    pub thousandths: [u64; TILES],
+    /// What this division leaves over: 1,000 times the tile's area is the
+    /// thousandths times the piece's area, and this.
+    pub remainders: [u64; TILES],
 }
 
 /// Zero is accepted; every other number is one of the refusals.
@@ -240,4 +253,33 @@ pub fn outline_point(outline: &[u32], x: u32, y: u32) -> Result<Place, Refusal> 
         3 => Ok(Place::Outside),
         number => panic!("the finder returned {number}, which is no place"),
     }
+}
+
+/// How a piece is shared among the nine tiles into which the lines of the
+/// reference's edges cut the plane.
+///
+/// ```
+/// use finder::{tile, tile_shares, Rect, Refusal};
+/// let piece = Rect::new(150, 180, 210, 230);
+/// let reference = Rect::new(100, 100, 200, 200);
+/// let shares = tile_shares(piece, reference)?;
+/// assert_eq!(shares.areas[tile::NORTH], 1500);
+/// assert_eq!(shares.thousandths[tile::NORTH], 500);
+/// assert_eq!(shares.areas[tile::NORTH_EAST], 300);
+/// assert_eq!(shares.areas[tile::WITHIN], 1000);
+/// // 1,000 times 1,000 is 333 times 3,000, the piece's area, and 1,000.
+/// assert_eq!(shares.thousandths[tile::WITHIN], 333);
+/// assert_eq!(shares.remainders[tile::WITHIN], 1000);
+/// let flat = Rect::new(100, 100, 200, 100);
+/// assert_eq!(tile_shares(piece, flat), Err(Refusal::RectangleNotValid));
+/// # Ok::<(), Refusal>(())
+/// ```
+pub fn tile_shares(piece: Rect, reference: Rect) -> Result<Shares, Refusal> {
+    let shares = raw::tile_shares(piece, reference);
+    accepted(shares.refusal)?;
+    Ok(Shares {
+        areas: shares.areas,
+        thousandths: shares.thousandths,
+        remainders: shares.remainders,
+    })
 }

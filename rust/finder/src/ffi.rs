@@ -67,6 +67,21 @@ pub struct Located {
     pub place: u32,
 }
 
+/// What `finder_tile_shares` returns: in C, `finder_shares`. Tile 3 * row +
+/// column stands at that place, rows from the south, columns from the west.
+#[repr(C)]
+#[derive(Clone, Copy, Debug, PartialEq, Eq)]
+pub struct TileShares {
+    /// Zero, or the number of the refusal.
+    pub refusal: u32,
+    /// The area of the piece in each tile.
+    pub areas: [u64; 9],
+    /// The whole thousandths of the piece's area.
+    pub thousandths: [u64; 9],
+    /// What that division leaves over.
+    pub remainders: [u64; 9],
+}
+
 extern "C" {
     /// Makes the table empty.
     pub fn finder_empty(table: *mut u32, table_len: usize) -> u32;
@@ -122,4 +137,16 @@ extern "C" {
     /// Says where a point lies by an outline.
     pub fn finder_outline_point(outline: *const u32, outline_len: usize, x: u32, y: u32)
         -> Located;
+
+    /// Shares the piece p among the nine tiles of the reference q.
+    pub fn finder_tile_shares(
+        px1: u32,
+        py1: u32,
+        px2: u32,
+        py2: u32,
+        qx1: u32,
+        qy1: u32,
+        qx2: u32,
+        qy2: u32,
+    ) -> TileShares;
 }

@@ -2,8 +2,9 @@
 //!
 //! A table of up to 1,024 pieces is a slice of 32-bit words that the caller
 //! owns. Pieces are placed in it, and a query writes the numbers of those whose
-//! rectangle stands to a reference as a wish says. Outlines of points need no
-//! table: [`outline_area`] and [`outline_point`].
+//! rectangle stands to a reference as a wish says. These need no table:
+//! outlines of points, [`outline_area`] and [`outline_point`], and how one
+//! rectangle is shared among the tiles round another, [`tile_shares`].
 //!
 //! ```
 //! use finder::{relation::*, *};
@@ -35,10 +36,11 @@ pub mod ffi;
 pub mod raw;
 mod refusal;
 pub mod relation;
+pub mod tile;
 
 pub use calls::{
     admitted, check, empty, front, opened_pages, outline_area, outline_point, place, query,
-    Admitted, Listed, Place, Rect,
+    tile_shares, Admitted, Listed, Place, Rect, Shares,
 };
 pub use refusal::Refusal;
 pub use relation::{one_of, Relation};
@@ -64,3 +66,6 @@ pub const POINTS_FEWEST: usize = 3;
 
 /// The most points that an outline may have, two words each.
 pub const POINTS: usize = 64;
+
+/// The tiles into which the four lines of a reference's edges cut the plane.
+pub const TILES: usize = 9;

@@ -1,9 +1,9 @@
 //! The calls with the very numbers that they return, refusals included. All of
 //! the crate's unsafe code is here: it hands on the pointer and the length of a
-//! slice, which is never a null pointer and always aligned.
+//! slice, which is never a null pointer and always aligned, or plain numbers.
 
 use crate::ffi;
-pub use crate::ffi::{AdmittedSet, Answer, Area, Checked, Located, Opened};
+pub use crate::ffi::{AdmittedSet, Answer, Area, Checked, Located, Opened, TileShares};
 use crate::Rect;
 
 /// The empty call. Returns zero or the refusal.
@@ -85,4 +85,11 @@ pub fn outline_area(outline: &[u32]) -> Area {
 pub fn outline_point(outline: &[u32], x: u32, y: u32) -> Located {
     // SAFETY: as for the outline-area call.
     unsafe { ffi::finder_outline_point(outline.as_ptr(), outline.len(), x, y) }
+}
+
+/// The tile-shares call.
+pub fn tile_shares(piece: Rect, reference: Rect) -> TileShares {
+    let (p, q) = (piece, reference);
+    // SAFETY: nothing is lent; any numbers may be passed on.
+    unsafe { ffi::finder_tile_shares(p.x1, p.y1, p.x2, p.y2, q.x1, q.y1, q.x2, q.y2) }
 }

@@ -7,7 +7,7 @@ use std::fmt;
 pub enum Refusal {
     /// The table slice is shorter than 14,325 words.
     TableTooShort = 1,
-    /// The rectangle is not valid.
+    /// A rectangle is not valid.
     RectangleNotValid = 2,
     /// The piece number is above 1,023.
     NumberTooLarge = 3,

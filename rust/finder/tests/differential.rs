@@ -3,6 +3,7 @@
 
 use compare::{suites, Calls, Compared};
 use finder::{raw, Rect};
+use model::tiles::Shares;
 
 /// The finder as the calls to compare.
 struct Finder;
@@ -65,6 +66,16 @@ impl Calls for Finder {
         let located = raw::outline_point(words, x, y);
         (located.refusal, located.place)
     }
+
+    fn tile_shares(&self, piece: model::Rect, reference: model::Rect) -> Shares {
+        let shares = raw::tile_shares(rect(piece), rect(reference));
+        (
+            shares.refusal,
+            shares.areas,
+            shares.thousandths,
+            shares.remainders,
+        )
+    }
 }
 
 fn run(suite: &str) {
@@ -99,6 +110,7 @@ suites! {
     front "front";
     outlines "outlines";
     damaged_tables "damaged tables";
+    tiles "tiles";
     configurations "configurations";
     lengths "lengths";
     answers "answers";

@@ -3,6 +3,7 @@
 use finder::relation::{one_of, Relation, ALL};
 use finder::{admitted, check, empty, front, opened_pages, place, query, Rect, Refusal};
 use finder::{outline_area, outline_point, Place, POINTS, POINTS_FEWEST};
+use finder::{tile, tile_shares, Shares, TILES};
 use finder::{EDGE, PAGES, PIECES, TABLE_WORDS};
 
 const EQUAL: u64 = one_of(&[finder::relation::EQUAL]);
@@ -26,6 +27,7 @@ fn sizes_are_those_of_the_paper() {
     assert_eq!(finder::CLAUSES, model::sizes::CLAUSES);
     assert_eq!(POINTS_FEWEST, model::sizes::POINTS_FEWEST);
     assert_eq!(POINTS, model::sizes::POINTS);
+    assert_eq!(TILES, model::sizes::TILES);
 }
 
 #[test]
@@ -105,6 +107,8 @@ fn each_refusal_by_name() {
     assert_eq!(outline_area(&SQUARE[1..]), Err(Refusal::PointCount));
     let far = outline_point(&SQUARE, EDGE + 1, 0);
     assert_eq!(far, Err(Refusal::CoordinateTooLarge));
+    assert_eq!(tile_shares(bad, good), Err(Refusal::RectangleNotValid));
+    assert_eq!(tile_shares(good, bad), Err(Refusal::RectangleNotValid));
 }
 
 #[test]
@@ -128,6 +132,56 @@ fn places_have_their_numbers() {
         let place = outline_point(&SQUARE, x, y).unwrap();
         assert_eq!(place as u32, number);
         assert_eq!(finder::raw::outline_point(&SQUARE, x, y).place, number);
+    }
+}
+
+/// Columns 1, 2 and 4 wide, rows 1, 3 and 5 high: each number is at its place.
+#[test]
+fn shares_of_a_piece() {
+    let (piece, reference) = (Rect::new(9, 9, 16, 18), Rect::new(10, 10, 12, 13));
+    let expected = Shares {
+        areas: [1, 2, 4, 3, 6, 12, 5, 10, 20],
+        thousandths: [15, 31, 63, 47, 95, 190, 79, 158, 317],
+        remainders: [55, 47, 31, 39, 15, 30, 23, 46, 29],
+    };
+    assert_eq!(tile_shares(piece, reference), Ok(expected));
+    let raw = finder::raw::tile_shares(piece, reference);
+    assert_eq!((raw.refusal, raw.areas), (0, expected.areas));
+    assert_eq!(raw.thousandths, expected.thousandths);
+    assert_eq!(raw.remainders, expected.remainders);
+}
+
+/// The names of tiles: a piece there has all of its area in it.
+#[test]
+fn tiles_lie_where_they_say() {
+    let reference = Rect::new(100, 100, 200, 200);
+    let tiles = [
+        (tile::SOUTH_WEST, Rect::new(10, 10, 20, 20)),
+        (tile::SOUTH, Rect::new(110, 10, 120, 20)),
+        (tile::SOUTH_EAST, Rect::new(300, 10, 310, 20)),
+        (tile::WEST, Rect::new(10, 110, 20, 120)),
+        (tile::WITHIN, Rect::new(110, 110, 120, 120)),
+        (tile::EAST, Rect::new(300, 110, 310, 120)),
+        (tile::NORTH_WEST, Rect::new(10, 300, 20, 310)),
+        (tile::NORTH, Rect::new(110, 300, 120, 310)),
+        (tile::NORTH_EAST, Rect::new(300, 300, 310, 310)),
+    ];
+    for (place, (tile, piece)) in tiles.into_iter().enumerate() {
+        assert_eq!(tile, place);
+        let shares = tile_shares(piece, reference).unwrap();
+        assert_eq!((shares.areas[tile], shares.thousandths[tile]), (100, 1000));
+    }
+}
+
+/// A refusal reports zeros.
+#[test]
+fn refused_shares_are_zero() {
+    let (good, bad) = (Rect::new(0, 0, EDGE, EDGE), Rect::new(0, 0, EDGE + 1, 1));
+    for (piece, reference) in [(good, bad), (bad, good), (bad, bad)] {
+        let shares = finder::raw::tile_shares(piece, reference);
+        assert_eq!(shares.refusal, 2);
+        let numbers = [shares.areas, shares.thousandths, shares.remainders];
+        assert_eq!(numbers, [[0; TILES]; 3]);
     }
 }
 
