@@ -1,5 +1,6 @@
 pub mod Lists
 pub mod Below
+pub mod Valid
 pub mod Facts
 pub mod Round
 pub mod Whole

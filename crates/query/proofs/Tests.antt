@@ -4,16 +4,16 @@ use native.Mathlib.Omega.{arith}
 use mathlib.Core.Path.{_≡_, refl}
 use mathlib.Core.Logic.{_↔_}
 use mathlib.Core.Bool.{true}
-use mathlib.Core.List.{List, [], _∷_}
-use lib.Dec.{T, leb, ltb, leb→le, ltb→lt}
+use mathlib.Core.List.{List}
+use lib.Dec.{T}
 use Rattle.relations.specs.Query.{refusalOf, rowSets, answer, admittedOf}
 use Rattle.relations.specs.Steps.{joinedOf}
 use Rattle.relations.proofs.Sides.{is-code}
 use Rattle.relations.proofs.Pages.{rows-have, page-test, may-hold, holds-inside}
 use Rattle.pages.specs.declared.Rect.{Rect}
-use Rattle.pages.specs.Sizes.{EDGE}
 use Rattle.pages.specs.Rectangles.{valid}
-use Rattle.pages.proofs.Lists.{true-T, T-true, holds}
+use Rattle.pages.proofs.Lists.{true-T, T-true}
+use Rattle.pages.proofs.Valid.{edges}
 use Rattle.pages.proofs.Walk.{Within}
 use Rattle.query.specs.Admission.{codeY, codeX, admitsRect, opens}
 use Rattle.query.specs.Demand2.{QuarterIn}
@@ -33,10 +33,9 @@ pub record Proper (r : Rect) : Type 0 where
   pub on-y : r .y1 < r .y2
 
 valid-parts : (r : Rect) → T (valid r) → Proper r × Small r
-unfolding valid
 valid-parts r v =
-    let (p, (q, (a, (b, (c, (d, _)))))) = holds (ltb (r .x1) (r .x2) ∷ ltb (r .y1) (r .y2) ∷ leb (r .x1) EDGE ∷ leb (r .y1) EDGE ∷ leb (r .x2) EDGE ∷ leb (r .y2) EDGE ∷ []) v in
-    (record { on-x = ltb→lt _ _ p; on-y = ltb→lt _ _ q }, record { x-start = leb→le _ _ a; y-start = leb→le _ _ b; x-end = leb→le _ _ c; y-end = leb→le _ _ d })
+    let e = edges r v in
+    (record { on-x = e .on-x; on-y = e .on-y }, record { x-start = e .x-start; y-start = e .y-start; x-end = e .x-end; y-end = e .y-end })
 
 pub proper : (r : Rect) → T (valid r) → Proper r
 proper r v = valid-parts r v .0

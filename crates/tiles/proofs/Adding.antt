@@ -11,12 +11,13 @@ use Rattle.pages.specs.declared.Rect.{Rect}
 use Rattle.pages.specs.Lists.{sumBelow}
 use Rattle.pages.specs.Rectangles.{valid}
 use Rattle.pages.proofs.Below.{below-shift}
+use Rattle.pages.proofs.Valid.{edges}
 use Rattle.tiles.specs.declared.Shares.{Shares}
 use Rattle.tiles.specs.Tiles.{TILES, areaOf, areaIn}
 use Rattle.tiles.specs.Calls.{THOUSAND, thousandthsOf, remainderOf, sharesIn, sharesCall}
 use Rattle.tiles.specs.Claims.{added, areaAt, thousandthsAt, remainderAt}
 use Rattle.tiles.proofs.Areas.{areas-add}
-use Rattle.tiles.proofs.Called.{proper, some-area, accepted}
+use Rattle.tiles.proofs.Called.{some-area, accepted}
 
 added-listed : (f : ℕ → ℕ) (n : ℕ) → added (listed f n) ≡ sumBelow n f
 unfolding listed
@@ -65,4 +66,4 @@ module _ (p q : Rect) (vp : T (valid p)) (vq : T (valid q)) where
       ∙ (div-add-mod' (THOUSAND * areaIn p q t) (areaOf p) ∙ ap (λ (a : ℕ). THOUSAND * a) (sym (area-at t l)))
 
   pub remainders : (t : ℕ) → t < TILES → remainderAt p q t < areaOf p
-  remainders t l = subst (λ (r : ℕ). r < areaOf p) (sym (remainder-at t l)) (mod-lt (THOUSAND * areaIn p q t) (some-area p (proper p vp)))
+  remainders t l = subst (λ (r : ℕ). r < areaOf p) (sym (remainder-at t l)) (mod-lt (THOUSAND * areaIn p q t) (some-area p (edges p vp)))

@@ -4,15 +4,16 @@ use native.Mathlib.Omega.{arith}
 use native.Mathlib.Nat.{mul-pos, mul-le-mul}
 use mathlib.Core.Path.{_≡_, sym, ap, ap₂, subst, _∙_}
 use mathlib.Core.Bool.{Bool, true, false, _&&_, and-false}
-use mathlib.Core.List.{List, [], _∷_}
-use lib.Dec.{T, leb, ltb, leb→le, ltb→lt}
+use mathlib.Core.List.{List}
+use lib.Dec.{T}
 use lib.ListN.{set}
 use Rattle.relations.proofs.Bits.{listed-same}
 use Rattle.relations.proofs.Filled.{filled, filled-more}
 use Rattle.pages.specs.declared.Rect.{Rect}
 use Rattle.pages.specs.Sizes.{EDGE}
 use Rattle.pages.specs.Rectangles.{valid}
-use Rattle.pages.proofs.Lists.{true-T, T-true, holds}
+use Rattle.pages.proofs.Lists.{true-T, T-true}
+use Rattle.pages.proofs.Valid.{Edges, edges}
 use Rattle.tiles.specs.declared.Shares.{Shares}
 use Rattle.tiles.specs.Tiles.{TILES, areaOf, areaIn}
 use Rattle.tiles.specs.Calls.{thousandthsOf, remainderOf, sharesIn, noShares, sharesCall}
@@ -20,35 +21,22 @@ use Rattle.tiles.specs.Steps.{cutAt, product, Short}
 use Rattle.tiles.proofs.Cutting.{cut-short}
 use Rattle.tiles.proofs.Areas.{area-product, area-whole}
 
--- the order and the size of a valid rectangle's edges
-pub record Proper (r : Rect) : Type 0 where
-  pub on-x : r .x1 < r .x2
-  pub on-y : r .y1 < r .y2
-  pub x-end : r .x2 ≤ EDGE
-  pub y-end : r .y2 ≤ EDGE
-
-pub proper : (r : Rect) → T (valid r) → Proper r
-unfolding valid
-proper r v =
-    let (p, (q, (_, (_, (a, (b, _)))))) = holds (ltb (r .x1) (r .x2) ∷ ltb (r .y1) (r .y2) ∷ leb (r .x1) EDGE ∷ leb (r .y1) EDGE ∷ leb (r .x2) EDGE ∷ leb (r .y2) EDGE ∷ []) v in
-    record { on-x = ltb→lt _ _ p; on-y = ltb→lt _ _ q; x-end = leb→le _ _ a; y-end = leb→le _ _ b }
-
 -- a height times a width fits 64 bits, also a thousand times
 pub product-fits : (a b : ℕ) → a ≤ EDGE → b ≤ EDGE → a * b ≤ EDGE * EDGE
 product-fits a b h k = mul-le-mul h k
 
-pub whole-fits : (r : Rect) → Proper r → (r .x2 - r .x1) * (r .y2 - r .y1) ≤ EDGE * EDGE
+pub whole-fits : (r : Rect) → Edges r → (r .x2 - r .x1) * (r .y2 - r .y1) ≤ EDGE * EDGE
 whole-fits r p = product-fits (r .x2 - r .x1) (r .y2 - r .y1) (omega (arith, p .x-end)) (omega (arith, p .y-end))
 
 -- a valid rectangle has an area
-pub some-area : (r : Rect) → Proper r → 0 < areaOf r
+pub some-area : (r : Rect) → Edges r → 0 < areaOf r
 some-area r p = subst (λ (x : ℕ). 0 < x) (sym (area-whole r)) (mul-pos (omega (arith, p .on-x)) (omega (arith, p .on-y)))
 
 pub area-is : (r : Rect) → T (valid r) → ((r .x2 - r .x1) * (r .y2 - r .y1) ≡ areaOf r) × (0 < (r .x2 - r .x1) * (r .y2 - r .y1))
-area-is r v = (sym (area-whole r), subst (λ (x : ℕ). 0 < x) (area-whole r) (some-area r (proper r v)))
+area-is r v = (sym (area-whole r), subst (λ (x : ℕ). 0 < x) (area-whole r) (some-area r (edges r v)))
 
 -- the parts of a valid side
-module _ (p q : Rect) (op : Proper p) (oq : Proper q) (parts : List ℕ) where
+module _ (p q : Rect) (op : Edges p) (oq : Edges q) (parts : List ℕ) where
   pub heights-short : parts ≡ cutAt (p .y1) (p .y2) (q .y1) (q .y2) → Short parts
   heights-short e = subst Short (sym e) (cut-short (p .y1) (p .y2) (q .y1) (q .y2) (omega (arith, op .on-y)) (omega (arith, oq .on-y)) (op .y-end))
 

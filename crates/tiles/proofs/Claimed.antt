@@ -4,7 +4,7 @@ use Rattle.tiles.proofs.Areas.{area-whole}
 use Rattle.tiles.proofs.Adding.{areas, thousandths, divided, remainders}
 use Rattle.tiles.proofs.Lengths.{lengths, single}
 use Rattle.tiles.proofs.Held.{held}
-use Rattle.tiles.proofs.Directions.{sides, bounded, corners}
+use Rattle.tiles.proofs.Directions.{covered, sides, bounded, corners}
 use Rattle.tiles.proofs.Examples.{shares-known}
 
 pub claimed : Claims
@@ -17,6 +17,7 @@ claimed = record {
   lengths = lengths;
   single = single;
   held = held;
+  covered = covered;
   sides = sides;
   bounded = bounded;
   corners = corners;

@@ -2,7 +2,7 @@
 use Prim.Native.Nat.{ℕ, zero, suc, _+_, _-_, _≤_, _<_, min, max}
 use native.Mathlib.Omega.{arith}
 use native.Mathlib.Decide.{decLt}
-use mathlib.Core.Path.{_≡_, refl, sym, ap, ap₂, subst, _∙_}
+use mathlib.Core.Path.{_≡_, refl, ap, ap₂, _∙_}
 use mathlib.Core.List.{[], _∷_}
 use lib.Dec.{eqb}
 use lib.ListN.{getD}
@@ -95,8 +95,8 @@ module _ (p q1 q2 : ℕ) (l : q1 ≤ q2) where
       go (no a) (yes b) = next 1 0 1 (strip-between q1 q2 (p + n) (omega arith) b) (at-same q1 n (omega arith)) (at-moved q2 n b) refl refl refl
       go (no a) (no b) = next 2 0 0 (strip-after q1 q2 (p + n) (omega arith) (omega arith)) (at-same q1 n (omega arith)) (at-same q2 n (omega arith)) refl refl refl
 
--- of the side [p1, p2], whose second end is p1 + (p2 - p1)
-module _ (p1 p2 q1 q2 : ℕ) (lp : p1 ≤ p2) (lq : q1 ≤ q2) where
+-- the side [p1, p2] cut at both lines, each drawn in to it
+module _ (p1 p2 q1 q2 : ℕ) where
   abbrev first : ℕ
   first = max p1 (min q1 p2)
 
@@ -108,23 +108,24 @@ module _ (p1 p2 q1 q2 : ℕ) (lp : p1 ≤ p2) (lq : q1 ≤ q2) where
     pub between : unitsIn p1 p2 q1 q2 1 + first ≡ second
     pub after : unitsIn p1 p2 q1 q2 2 + second ≡ p2
 
-  pub parts : Parts
+less : (u a b : ℕ) → u + a ≡ b → b - a ≡ u
+less u a b e = omega arith
+
+module _ (p1 p2 q1 q2 : ℕ) (lp : p1 ≤ p2) (lq : q1 ≤ q2) where
+  pub parts : Parts p1 p2 q1 q2
   unfolding unitsIn units at
   parts =
       let c = cut p1 q1 q2 lq (p2 - p1) in
       let e : p1 + (p2 - p1) ≡ p2 = omega arith in
       record { before = rw e at (c .before); between = rw e at (c .between); after = rw e at (c .after) }
 
-  less : (u a b : ℕ) → u + a ≡ b → b - a ≡ u
-  less u a b e = omega arith
-
   -- as `cut` makes them
-  pub cut-is : (a b : ℕ) → a ≡ first → b ≡ second → (a - p1) ∷ (b - a) ∷ (p2 - b) ∷ [] ≡ cutAt p1 p2 q1 q2
+  pub cut-is : (a b : ℕ) → a ≡ first p1 p2 q1 q2 → b ≡ second p1 p2 q1 q2 → (a - p1) ∷ (b - a) ∷ (p2 - b) ∷ [] ≡ cutAt p1 p2 q1 q2
   unfolding cutAt listed
   cut-is a b ea eb =
-      let x = ap (λ (z : ℕ). z - p1) ea ∙ less (unitsIn p1 p2 q1 q2 0) p1 first (parts .before) in
-      let y = ap₂ _-_ eb ea ∙ less (unitsIn p1 p2 q1 q2 1) first second (parts .between) in
-      let z = ap (λ (z : ℕ). p2 - z) eb ∙ less (unitsIn p1 p2 q1 q2 2) second p2 (parts .after) in
+      let x = ap (λ (z : ℕ). z - p1) ea ∙ less (unitsIn p1 p2 q1 q2 0) p1 (first p1 p2 q1 q2) (parts .before) in
+      let y = ap₂ _-_ eb ea ∙ less (unitsIn p1 p2 q1 q2 1) (first p1 p2 q1 q2) (second p1 p2 q1 q2) (parts .between) in
+      let z = ap (λ (z : ℕ). p2 - z) eb ∙ less (unitsIn p1 p2 q1 q2 2) (second p1 p2 q1 q2) p2 (parts .after) in
       rw (x, y, z)
 
   units-short : (s : ℕ) → s < STRIPS → unitsIn p1 p2 q1 q2 s ≤ p2

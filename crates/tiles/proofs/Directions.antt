@@ -1,14 +1,14 @@
 -- Tiles that alone hold some of the piece have its whole area; which these are is computed for every direction and configuration.
 use Prim.Native.Nat.{ℕ, suc, _+_, _≤_, _<_}
 use native.Mathlib.Omega.{arith}
-use mathlib.Core.Path.{_≡_, refl, sym, ap, subst, _∙_}
-use mathlib.Core.Bool.{Bool, true, false, not, _||_, or-true, cond, Bool·beq}
+use mathlib.Core.Path.{_≡_, refl, sym, ap, _∙_}
+use mathlib.Core.Bool.{Bool, true, false, not, _||_, cond, Bool·beq}
 use mathlib.Core.Logic.{_↔_}
-use mathlib.Core.List.{List}
-use lib.Dec.{T, ltb}
+use mathlib.Core.List.{List, [], _∷_}
+use lib.Dec.{T}
 use borrow.Author.Tests.{ltb-false, le-ltb, not-true}
-use Rattle.relations.specs.Sets.{member, someBelow}
-use Rattle.relations.specs.Axis.{CODES, IsCode}
+use Rattle.relations.specs.Sets.{member}
+use Rattle.relations.specs.Axis.{CODES}
 use Rattle.relations.specs.Relation.{inRelation}
 use Rattle.relations.proofs.Bits.{none-below}
 use Rattle.relations.proofs.Tests.{allBelow, allPairs, all-at, pair-at, beq-eq}
@@ -18,13 +18,13 @@ use Rattle.pages.specs.Lists.{sumBelow}
 use Rattle.pages.specs.Rectangles.{valid}
 use Rattle.pages.proofs.Below.{below-same, below-add, below-at}
 use Rattle.tiles.specs.Tiles.{TILES, areaOf, areaIn}
-use Rattle.tiles.specs.Names.{side, middle, corner, directed, STRONG, BOUNDED, CORNER, JUST, codeOnY, codeOnX, stands}
+use Rattle.tiles.specs.Names.{within, side, middle, corner, directed, COVERED_BY, STRONG, BOUNDED, CORNER, JUST, codeOnY, codeOnX, stands}
 use Rattle.tiles.specs.Claims.{areaAt, areaOver}
 use Rattle.tiles.proofs.Areas.{areas-add}
 use Rattle.tiles.proofs.Adding.{area-at}
 use Rattle.tiles.proofs.Held.{heldAt, held}
 
--- no other tile has some of a piece in configuration (i, j)
+-- tile t is one of these, or has nothing of a piece in configuration (i, j)
 alone : List ℕ → ℕ → ℕ → ℕ → Bool
 alone tiles i j t = member t tiles || not (heldAt i j t)
 
@@ -53,6 +53,13 @@ bounded-test = refl
 corners-test : forDirections (oneRight CORNER corner) ≡ true
 unfolding forDirections oneRight allAlone alone inRelation allPairs allBelow
 corners-test = refl
+
+coveredRight : ℕ → ℕ → Bool
+coveredRight h k = Bool·beq (inRelation COVERED_BY (suc h) (suc k)) (allAlone (within ∷ []) (suc h) (suc k))
+
+covered-test : allPairs coveredRight CODES CODES ≡ true
+unfolding coveredRight allAlone alone inRelation allPairs allBelow
+covered-test = refl
 
 at-codes : (f : ℕ → ℕ → ℕ → Bool) → forDirections f ≡ true → (d h k : ℕ) → d < 4 → h < CODES → k < CODES → f d h k ≡ true
 unfolding forDirections
@@ -105,14 +112,14 @@ module _ (m : ℕ → Bool) (a : ℕ → ℕ) (n : ℕ) where
 
 module _ (p q : Rect) (vp : T (valid p)) (vq : T (valid q)) where
   -- no other tile has some of the piece
-  abbrev AllHeld : List ℕ → Type 0
-  AllHeld tiles = allAlone tiles (codeOnY p q) (codeOnX p q) ≡ true
+  abbrev Alone : List ℕ → Type 0
+  Alone tiles = allAlone tiles (codeOnY p q) (codeOnX p q) ≡ true
 
   all-areas : sumBelow TILES (areaAt p q) ≡ areaOf p
   all-areas = below-same TILES (areaAt p q) (areaIn p q) (area-at p q vp vq) ∙ areas-add p q
 
   -- tiles that alone hold some of the piece have it whole
-  alone-whole : (tiles : List ℕ) → AllHeld tiles → areaOver tiles p q ≡ areaOf p
+  alone-whole : (tiles : List ℕ) → Alone tiles → areaOver tiles p q ≡ areaOf p
   unfolding allAlone alone chosen
   alone-whole tiles e = all-chosen (λ t. member t tiles) (areaAt p q) TILES none ∙ all-areas
     where
@@ -123,7 +130,7 @@ module _ (p q : Rect) (vp : T (valid p)) (vq : T (valid q)) where
           let c = ltb-false 0 (areaAt p q t) (held p q vp vq t l ∙ not-true (heldAt (codeOnY p q) (codeOnX p q) t) b) in
           omega arith
 
-  whole-alone : (tiles : List ℕ) → areaOver tiles p q ≡ areaOf p → AllHeld tiles
+  whole-alone : (tiles : List ℕ) → areaOver tiles p q ≡ areaOf p → Alone tiles
   unfolding allAlone alone chosen
   whole-alone tiles e = all-below (alone tiles (codeOnY p q) (codeOnX p q)) TILES (λ t l. go t l (member t tiles) refl)
     where
@@ -133,15 +140,24 @@ module _ (p q : Rect) (vp : T (valid p)) (vq : T (valid q)) where
           let none = none-beside (λ t. member t tiles) (areaAt p q) TILES (e ∙ sym all-areas) t l f in
           ap not (sym (held p q vp vq t l) ∙ le-ltb 0 (areaAt p q t) (omega arith))
 
+  -- relations whose configurations are those of the tiles
+  same-whole : (b : Bool) (tiles : List ℕ) → b ≡ allAlone tiles (codeOnY p q) (codeOnX p q) → (areaOver tiles p q ≡ areaOf p) ↔ (b ≡ true)
+  same-whole b tiles same = (λ e. same ∙ whole-alone tiles e, λ e. alone-whole tiles (sym same ∙ e))
+
+  pub covered : (areaOver (within ∷ []) p q ≡ areaOf p) ↔ (stands COVERED_BY p q ≡ true)
+  unfolding coveredRight
+  covered =
+      same-whole (stands COVERED_BY p q) (within ∷ [])
+      (configured p q (λ i j. inRelation COVERED_BY i j ≡ allAlone (within ∷ []) i j)
+      (λ h k lh lk. beq-eq (inRelation COVERED_BY (suc h) (suc k)) (allAlone (within ∷ []) (suc h) (suc k)) (pair-at coveredRight CODES CODES h k covered-test lh lk)))
+
   pub sides : (d : ℕ) → d < 4 → (areaOver (side d) p q ≡ areaOf p) ↔ ((stands (directed d STRONG) p q || stands (directed d JUST) p q) ≡ true)
   unfolding sideRight
-  sides d l = (λ e. same ∙ whole-alone (side d) e, λ e. alone-whole (side d) (sym same ∙ e))
-    where
-      same : (stands (directed d STRONG) p q || stands (directed d JUST) p q) ≡ allAlone (side d) (codeOnY p q) (codeOnX p q)
-      same =
-          configured p q (λ i j. (inRelation (directed d STRONG) i j || inRelation (directed d JUST) i j) ≡ allAlone (side d) i j)
-          (λ h k lh lk. beq-eq (inRelation (directed d STRONG) (suc h) (suc k) || inRelation (directed d JUST) (suc h) (suc k)) (allAlone (side d) (suc h) (suc k))
-          (at-codes sideRight sides-test d h k l lh lk))
+  sides d l =
+      same-whole (stands (directed d STRONG) p q || stands (directed d JUST) p q) (side d)
+      (configured p q (λ i j. (inRelation (directed d STRONG) i j || inRelation (directed d JUST) i j) ≡ allAlone (side d) i j)
+      (λ h k lh lk. beq-eq (inRelation (directed d STRONG) (suc h) (suc k) || inRelation (directed d JUST) (suc h) (suc k)) (allAlone (side d) (suc h) (suc k))
+      (at-codes sideRight sides-test d h k l lh lk)))
 
   one-tile : (kind : ℕ) (tiles : ℕ → List ℕ) → forDirections (oneRight kind tiles) ≡ true
       → (d : ℕ) → d < 4 → stands (directed d kind) p q ≡ true → areaOver (tiles d) p q ≡ areaOf p
@@ -149,7 +165,7 @@ module _ (p q : Rect) (vp : T (valid p)) (vq : T (valid q)) where
   one-tile kind tiles test d l e =
       let right = configured p q (λ i j. (not (inRelation (directed d kind) i j) || allAlone (tiles d) i j) ≡ true)
       (λ h k lh lk. at-codes (oneRight kind tiles) test d h k l lh lk) in
-      let only : AllHeld (tiles d) = rw e at right in
+      let only : Alone (tiles d) = rw e at right in
       alone-whole (tiles d) only
 
   pub bounded : (d : ℕ) → d < 4 → stands (directed d BOUNDED) p q ≡ true → areaOver (middle d) p q ≡ areaOf p

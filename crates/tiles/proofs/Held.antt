@@ -13,14 +13,14 @@ use borrow.Author.Tests.{lt-ltb, le-ltb, ltb-true}
 use Rattle.relations.specs.Sets.{member}
 use Rattle.relations.specs.Axis.{code, lines}
 use Rattle.relations.proofs.Tests.{allBelow, allPairs, all-at, beq-eq, same-test, and-left, and-right, both}
-use Rattle.relations.proofs.Sides.{Side, below, at, above, Alike}
+use Rattle.relations.proofs.Sides.{Side, below, at, above}
 use Rattle.relations.proofs.Zones.{zone, zoned, feasible, allZones, at-zones, by-zones}
 use Rattle.pages.specs.declared.Rect.{Rect}
 use Rattle.pages.specs.Rectangles.{valid}
+use Rattle.pages.proofs.Valid.{edges}
 use Rattle.tiles.specs.Tiles.{STRIPS, TILES}
-use Rattle.tiles.specs.Names.{codeOnY, codeOnX, stripsOf}
+use Rattle.tiles.specs.Names.{codeOnY, codeOnX, codesIn}
 use Rattle.tiles.specs.Claims.{lengthIn, areaAt}
-use Rattle.tiles.proofs.Called.{proper}
 use Rattle.tiles.proofs.Lengths.{lengths}
 
 -- [p1, p2] reaches into strip s, by its ends
@@ -28,7 +28,7 @@ reaches : ℕ → ℕ → ℕ → ℕ → ℕ → Bool
 reaches p1 p2 q1 q2 s = getD (ltb p1 q1 ∷ (ltb p1 q2 && ltb q1 p2) ∷ ltb q2 p2 ∷ []) s false
 
 codeReaches : ℕ → ℕ → ℕ → Bool
-codeReaches z w s = Bool·beq (member s (stripsOf (code z w 1 3))) (reaches z w 1 3 s)
+codeReaches z w s = Bool·beq (member (code z w 1 3) (codesIn s)) (reaches z w 1 3 s)
 
 zonesReach : ℕ → ℕ → Bool
 zonesReach z w = allBelow (codeReaches z w) STRIPS
@@ -49,23 +49,17 @@ alike-above {x} {q} {y} {s} (at h) (at k) = le-ltb q x (omega arith) ∙ sym (le
 alike-above {x} {q} {y} {s} (above h) (above k) = lt-ltb q x h ∙ sym (lt-ltb s y k)
 
 module _ (p1 p2 q1 q2 : ℕ) (lp : p1 < p2) (lq : q1 < q2) where
-  z : ℕ
-  z = zone q1 q2 p1
-
-  w : ℕ
-  w = zone q1 q2 p2
-
-  reaches-zones : (s : ℕ) → reaches p1 p2 q1 q2 s ≡ reaches z w 1 3 s
-  unfolding reaches z w
+  reaches-zones : (s : ℕ) → reaches p1 p2 q1 q2 s ≡ reaches (zone q1 q2 p1) (zone q1 q2 p2) 1 3 s
+  unfolding reaches
   reaches-zones s =
       let u = zoned lq p1 in
       let v = zoned lq p2 in
       rw (alike-below (u .to-q1) (u .to-s1), alike-below (u .to-q2) (u .to-s2), alike-above (v .to-q1) (v .to-s1), alike-above (v .to-q2) (v .to-s2))
 
-  code-reaches : (s : ℕ) → s < STRIPS → member s (stripsOf (code p1 p2 q1 q2)) ≡ reaches p1 p2 q1 q2 s
-  unfolding zonesReach codeReaches z w
+  code-reaches : (s : ℕ) → s < STRIPS → member (code p1 p2 q1 q2) (codesIn s) ≡ reaches p1 p2 q1 q2 s
+  unfolding zonesReach codeReaches
   code-reaches s h =
-      ap (λ (c : ℕ). member s (stripsOf c)) (by-zones lq lp)
+      ap (λ (c : ℕ). member c (codesIn s)) (by-zones lq lp)
       ∙ (beq-eq _ _ (all-at (codeReaches (zone q1 q2 p1) (zone q1 q2 p2)) STRIPS s (at-zones lq lp zonesReach zones-test) h) ∙ sym (reaches-zones s))
 
   length-reaches : (s : ℕ) → s < STRIPS → ltb 0 (lengthIn p1 p2 q1 q2 s) ≡ reaches p1 p2 q1 q2 s
@@ -85,7 +79,7 @@ module _ (p1 p2 q1 q2 : ℕ) (lp : p1 < p2) (lq : q1 < q2) where
       (λ e. let l = ltb-true q2 p2 e in lt-ltb 0 (p2 - max p1 q2) (omega arith))
   length-reaches (suc (suc (suc n))) h = absurd (omega arith)
 
-  some-length : (s : ℕ) → s < STRIPS → ltb 0 (lengthIn p1 p2 q1 q2 s) ≡ member s (stripsOf (code p1 p2 q1 q2))
+  some-length : (s : ℕ) → s < STRIPS → ltb 0 (lengthIn p1 p2 q1 q2 s) ≡ member (code p1 p2 q1 q2) (codesIn s)
   some-length s h = length-reaches s h ∙ sym (code-reaches s h)
 
 some-product : (a b : ℕ) → ltb 0 (a * b) ≡ (ltb 0 a && ltb 0 b)
@@ -102,12 +96,12 @@ some-product a b = go (decLt 0 a) (decLt 0 b)
 
 -- tile t has some of a piece in configuration (i, j)
 abbrev pub heldAt : ℕ → ℕ → ℕ → Bool
-heldAt i j t = member (t / STRIPS) (stripsOf i) && member (t % STRIPS) (stripsOf j)
+heldAt i j t = member i (codesIn (t / STRIPS)) && member j (codesIn (t % STRIPS))
 
 pub held : (p q : Rect) → T (valid p) → T (valid q) → (t : ℕ) → t < TILES → ltb 0 (areaAt p q t) ≡ heldAt (codeOnY p q) (codeOnX p q) t
 held p q vp vq t l =
-    let op = proper p vp in
-    let oq = proper q vq in
+    let op = edges p vp in
+    let oq = edges q vq in
     let y = some-length (p .y1) (p .y2) (q .y1) (q .y2) (op .on-y) (oq .on-y) (t / 3) (omega arith) in
     let x = some-length (p .x1) (p .x2) (q .x1) (q .x2) (op .on-x) (oq .on-x) (t % 3) (omega arith) in
     ap (ltb 0) (lengths p q vp vq t l)

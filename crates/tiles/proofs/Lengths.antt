@@ -13,13 +13,13 @@ use borrow.Author.Tests.{le-leb, leb-true}
 use Rattle.relations.proofs.Tests.{and-left, and-right, both}
 use Rattle.pages.specs.declared.Rect.{Rect}
 use Rattle.pages.specs.Rectangles.{valid}
-use Rattle.tiles.specs.Tiles.{STRIPS, TILES, areaOf, areaIn}
+use Rattle.pages.proofs.Valid.{Edges, edges}
+use Rattle.tiles.specs.Tiles.{STRIPS, TILES, areaOf}
 use Rattle.tiles.specs.Names.{singles}
 use Rattle.tiles.specs.Claims.{lengthIn, areaAt}
 use Rattle.tiles.specs.Steps.{unitsIn}
 use Rattle.tiles.proofs.Cutting.{Parts, parts}
 use Rattle.tiles.proofs.Areas.{area-units, area-whole}
-use Rattle.tiles.proofs.Called.{Proper, proper}
 use Rattle.tiles.proofs.Adding.{area-at}
 
 rest : (u a b : ℕ) → u + a ≡ b → u ≡ b - a
@@ -51,15 +51,15 @@ module _ (p1 p2 q1 q2 : ℕ) (lp : p1 < p2) (lq : q1 < q2) where
   units-after : (u : ℕ) → u + max p1 (min q2 p2) ≡ p2 → u ≡ p2 - max p1 q2
   units-after u e = omega arith
 
+  cuts : Parts p1 p2 q1 q2
+  cuts = parts p1 p2 q1 q2 (omega arith) (omega arith)
+
   pub units-length : (s : ℕ) → s < STRIPS → unitsIn p1 p2 q1 q2 s ≡ lengthIn p1 p2 q1 q2 s
   unfolding lengthIn
-  units-length s h = go s h (parts p1 p2 q1 q2 (omega arith) (omega arith))
-    where
-      go : (s : ℕ) → s < STRIPS → Parts p1 p2 q1 q2 (omega arith) (omega arith) → unitsIn p1 p2 q1 q2 s ≡ getD ((min p2 q1 - p1) ∷ (min p2 q2 - max p1 q1) ∷ (p2 - max p1 q2) ∷ []) s 0
-      go zero h c = units-before (unitsIn p1 p2 q1 q2 0) (c .before)
-      go (suc zero) h c = units-between (unitsIn p1 p2 q1 q2 1) (c .between)
-      go (suc (suc zero)) h c = units-after (unitsIn p1 p2 q1 q2 2) (c .after)
-      go (suc (suc (suc n))) h c = absurd (omega arith)
+  units-length zero h = units-before (unitsIn p1 p2 q1 q2 0) (cuts .before)
+  units-length (suc zero) h = units-between (unitsIn p1 p2 q1 q2 1) (cuts .between)
+  units-length (suc (suc zero)) h = units-after (unitsIn p1 p2 q1 q2 2) (cuts .after)
+  units-length (suc (suc (suc n))) h = absurd (omega arith)
 
   lies-whole : (s : ℕ) → s < STRIPS → lies p1 p2 q1 q2 s ≡ true → lengthIn p1 p2 q1 q2 s ≡ p2 - p1
   unfolding lengthIn lies
@@ -104,8 +104,8 @@ module _ (p q : Rect) (vp : T (valid p)) (vq : T (valid q)) where
 
   pub lengths : (t : ℕ) → t < TILES → areaAt p q t ≡ onY (t / STRIPS) * onX (t % STRIPS)
   lengths t l =
-      let op = proper p vp in
-      let oq = proper q vq in
+      let op = edges p vp in
+      let oq = edges q vq in
       area-at p q vp vq t l
       ∙ (area-units p q t
       ∙ ap₂ _*_ (units-length (p .y1) (p .y2) (q .y1) (q .y2) (op .on-y) (oq .on-y) (t / 3) (omega arith))
@@ -134,11 +134,11 @@ module _ (p q : Rect) (vp : T (valid p)) (vq : T (valid q)) where
   pub single : (t : ℕ) → t < TILES → (areaAt p q t ≡ areaOf p) ↔ (getD (singles p q) t false ≡ true)
   single t l = (to, from)
     where
-      op : Proper p
-      op = proper p vp
+      op : Edges p
+      op = edges p vp
 
-      oq : Proper q
-      oq = proper q vq
+      oq : Edges q
+      oq = edges q vq
 
       row : t / 3 < STRIPS
       row = omega arith

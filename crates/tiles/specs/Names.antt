@@ -4,6 +4,7 @@ use mathlib.Core.Bool.{Bool, _&&_}
 use mathlib.Core.List.{List, [], _∷_}
 use lib.Dec.{leb}
 use lib.ListN.{getD}
+use Rattle.relations.specs.Sets.{_to_}
 use Rattle.relations.specs.Axis.{code}
 use Rattle.relations.specs.Relation.{inRelation}
 use Rattle.pages.specs.declared.Rect.{Rect}
@@ -75,6 +76,10 @@ corner d = getD ((northEast ∷ []) ∷ (southEast ∷ []) ∷ (southWest ∷ []
 abbrev pub directed : ℕ → ℕ → ℕ
 directed d k = 8 + 8 * d + k
 
+-- "3 covered_by"
+abbrev pub COVERED_BY : ℕ
+COVERED_BY = 3
+
 -- "k = 0 strong", "k = 2 strong bounded", "k = 4 strong corner", "k = 6 just"
 abbrev pub STRONG : ℕ
 STRONG = 0
@@ -99,23 +104,6 @@ codeOnX p q = code (p .x1) (p .x2) (q .x1) (q .x2)
 abbrev pub stands : ℕ → Rect → Rect → Bool
 stands t p q = inRelation t (codeOnY p q) (codeOnX p q)
 
--- the strips in which an interval of code c has some length
-abbrev pub stripsOf : ℕ → List ℕ
-stripsOf c =
-    getD
-    ([]
-    ∷ (2 ∷ [])
-    ∷ (2 ∷ [])
-    ∷ (1 ∷ 2 ∷ [])
-    ∷ (1 ∷ 2 ∷ [])
-    ∷ (0 ∷ 1 ∷ 2 ∷ [])
-    ∷ (1 ∷ [])
-    ∷ (1 ∷ [])
-    ∷ (0 ∷ 1 ∷ [])
-    ∷ (1 ∷ [])
-    ∷ (1 ∷ [])
-    ∷ (0 ∷ 1 ∷ [])
-    ∷ (0 ∷ [])
-    ∷ (0 ∷ [])
-    ∷ [])
-    c []
+-- the codes of the sides that have some length before both lines, between them, after both
+abbrev pub codesIn : ℕ → List ℕ
+codesIn s = getD ((5 ∷ 8 ∷ 11 ∷ 12 ∷ 13 ∷ []) ∷ (3 to 11) ∷ (1 to 5) ∷ []) s []

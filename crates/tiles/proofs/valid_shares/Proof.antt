@@ -1,20 +1,21 @@
 -- Both sides are cut, and the piece has an area.
 use native.Mathlib.Omega.{arith}
-use Rattle.tiles.proofs.Called.{proper, heights-short, widths-short, cut-shares}
+use Rattle.pages.proofs.Valid.{edges}
+use Rattle.tiles.proofs.Called.{heights-short, widths-short, cut-shares}
 use borrow.Author.Needs.{needs}
 use Rattle.tiles.proofs.valid_shares.Statement.{statement}
 use Rattle.tiles.proofs.valid_shares.Tie as tie
 
 cut-requires : tie.Need-cut-requires
 cut-requires c κs =
-    let p = proper _ (c .pre .0) in
-    let q = proper _ (c .pre .1) in
+    let p = edges _ (c .pre .0) in
+    let q = edges _ (c .pre .1) in
     (omega (arith, p .on-y), omega (arith, q .on-y))
 
 cut-requires-2 : tie.Need-cut-requires-2
 cut-requires-2 c κs =
-    let p = proper _ (c .before .pre .0) in
-    let q = proper _ (c .before .pre .1) in
+    let p = edges _ (c .before .pre .0) in
+    let q = edges _ (c .before .pre .1) in
     (omega (arith, p .on-x), omega (arith, q .on-x))
 
 area-requires : tie.Need-area-requires
@@ -23,8 +24,8 @@ area-requires c κs = search needs
 shares-of-requires : tie.Need-shares-of-requires
 shares-of-requires c κs =
     let start = c .before .before .before in
-    let p = proper _ (start .pre .0) in
-    let q = proper _ (start .pre .1) in
+    let p = edges _ (start .pre .0) in
+    let q = edges _ (start .pre .1) in
     (heights-short _ _ p q _ (c .before .before .cut .ensures), (widths-short _ _ p q _ (c .before .cut2 .ensures), c .area .ensures .1))
 
 returns : tie.Need-returns
