@@ -18,7 +18,7 @@ use Rattle.pages.specs.Lists.{sumBelow}
 use Rattle.pages.specs.Rectangles.{valid}
 use Rattle.pages.proofs.Below.{below-same, below-add, below-at}
 use Rattle.tiles.specs.Tiles.{TILES, areaOf, areaIn}
-use Rattle.tiles.specs.Names.{within, side, middle, corner, directed, COVERED_BY, STRONG, BOUNDED, CORNER, JUST, codeOnY, codeOnX, stands}
+use Rattle.tiles.specs.Names.{within, side, middle, corner, directed, COVERED_BY, STRONG, BOUNDED, CORNER, JUST, codeY, codeX, stands}
 use Rattle.tiles.specs.Claims.{areaAt, areaOver}
 use Rattle.tiles.proofs.Areas.{areas-add}
 use Rattle.tiles.proofs.Adding.{area-at}
@@ -67,11 +67,11 @@ at-codes f t d h k ld lh lk = pair-at (f d) CODES CODES h k (all-at (λ d. allPa
 
 -- what holds of all codes holds of the piece's
 module _ (p q : Rect) where
-  configured : (P : ℕ → ℕ → Type 0) → ((h k : ℕ) → h < CODES → k < CODES → P (suc h) (suc k)) → P (codeOnY p q) (codeOnX p q)
+  configured : (P : ℕ → ℕ → Type 0) → ((h k : ℕ) → h < CODES → k < CODES → P (suc h) (suc k)) → P (codeY q p) (codeX q p)
   configured P f =
-      of-code (λ i. P i (codeOnX p q))
-      (λ h lh. of-code (P (suc h)) (λ k lk. f h k lh lk) (codeOnX p q) (is-code (p .x1) (p .x2) (q .x1) (q .x2)))
-      (codeOnY p q) (is-code (p .y1) (p .y2) (q .y1) (q .y2))
+      of-code (λ i. P i (codeX q p))
+      (λ h lh. of-code (P (suc h)) (λ k lk. f h k lh lk) (codeX q p) (is-code (p .x1) (p .x2) (q .x1) (q .x2)))
+      (codeY q p) (is-code (p .y1) (p .y2) (q .y1) (q .y2))
 
 all-below : (f : ℕ → Bool) (n : ℕ) → ((k : ℕ) → k < n → f k ≡ true) → allBelow f n ≡ true
 unfolding allBelow
@@ -113,7 +113,7 @@ module _ (m : ℕ → Bool) (a : ℕ → ℕ) (n : ℕ) where
 module _ (p q : Rect) (vp : T (valid p)) (vq : T (valid q)) where
   -- no other tile has some of the piece
   abbrev Alone : List ℕ → Type 0
-  Alone tiles = allAlone tiles (codeOnY p q) (codeOnX p q) ≡ true
+  Alone tiles = allAlone tiles (codeY q p) (codeX q p) ≡ true
 
   all-areas : sumBelow TILES (areaAt p q) ≡ areaOf p
   all-areas = below-same TILES (areaAt p q) (areaIn p q) (area-at p q vp vq) ∙ areas-add p q
@@ -125,23 +125,23 @@ module _ (p q : Rect) (vp : T (valid p)) (vq : T (valid q)) where
     where
       none : (t : ℕ) → t < TILES → member t tiles ≡ false → areaAt p q t ≡ 0
       none t l f =
-          let a : (member t tiles || not (heldAt (codeOnY p q) (codeOnX p q) t)) ≡ true = all-at (alone tiles (codeOnY p q) (codeOnX p q)) TILES t e l in
-          let b : not (heldAt (codeOnY p q) (codeOnX p q) t) ≡ true = rw f at a in
-          let c = ltb-false 0 (areaAt p q t) (held p q vp vq t l ∙ not-true (heldAt (codeOnY p q) (codeOnX p q) t) b) in
+          let a : (member t tiles || not (heldAt (codeY q p) (codeX q p) t)) ≡ true = all-at (alone tiles (codeY q p) (codeX q p)) TILES t e l in
+          let b : not (heldAt (codeY q p) (codeX q p) t) ≡ true = rw f at a in
+          let c = ltb-false 0 (areaAt p q t) (held p q vp vq t l ∙ not-true (heldAt (codeY q p) (codeX q p) t) b) in
           omega arith
 
   whole-alone : (tiles : List ℕ) → areaOver tiles p q ≡ areaOf p → Alone tiles
   unfolding allAlone alone chosen
-  whole-alone tiles e = all-below (alone tiles (codeOnY p q) (codeOnX p q)) TILES (λ t l. go t l (member t tiles) refl)
+  whole-alone tiles e = all-below (alone tiles (codeY q p) (codeX q p)) TILES (λ t l. go t l (member t tiles) refl)
     where
-      go : (t : ℕ) → t < TILES → (b : Bool) → member t tiles ≡ b → (b || not (heldAt (codeOnY p q) (codeOnX p q) t)) ≡ true
+      go : (t : ℕ) → t < TILES → (b : Bool) → member t tiles ≡ b → (b || not (heldAt (codeY q p) (codeX q p) t)) ≡ true
       go t l true f = refl
       go t l false f =
           let none = none-beside (λ t. member t tiles) (areaAt p q) TILES (e ∙ sym all-areas) t l f in
           ap not (sym (held p q vp vq t l) ∙ le-ltb 0 (areaAt p q t) (omega arith))
 
   -- relations whose configurations are those of the tiles
-  same-whole : (b : Bool) (tiles : List ℕ) → b ≡ allAlone tiles (codeOnY p q) (codeOnX p q) → (areaOver tiles p q ≡ areaOf p) ↔ (b ≡ true)
+  same-whole : (b : Bool) (tiles : List ℕ) → b ≡ allAlone tiles (codeY q p) (codeX q p) → (areaOver tiles p q ≡ areaOf p) ↔ (b ≡ true)
   same-whole b tiles same = (λ e. same ∙ whole-alone tiles e, λ e. alone-whole tiles (sym same ∙ e))
 
   pub covered : (areaOver (within ∷ []) p q ≡ areaOf p) ↔ (stands COVERED_BY p q ≡ true)

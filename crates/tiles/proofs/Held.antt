@@ -19,7 +19,7 @@ use Rattle.pages.specs.declared.Rect.{Rect}
 use Rattle.pages.specs.Rectangles.{valid}
 use Rattle.pages.proofs.Valid.{edges}
 use Rattle.tiles.specs.Tiles.{STRIPS, TILES}
-use Rattle.tiles.specs.Names.{codeOnY, codeOnX, codesIn}
+use Rattle.tiles.specs.Names.{codeY, codeX, codesIn}
 use Rattle.tiles.specs.Claims.{lengthIn, areaAt}
 use Rattle.tiles.proofs.Lengths.{lengths}
 
@@ -98,7 +98,7 @@ some-product a b = go (decLt 0 a) (decLt 0 b)
 abbrev pub heldAt : ℕ → ℕ → ℕ → Bool
 heldAt i j t = member i (codesIn (t / STRIPS)) && member j (codesIn (t % STRIPS))
 
-pub held : (p q : Rect) → T (valid p) → T (valid q) → (t : ℕ) → t < TILES → ltb 0 (areaAt p q t) ≡ heldAt (codeOnY p q) (codeOnX p q) t
+pub held : (p q : Rect) → T (valid p) → T (valid q) → (t : ℕ) → t < TILES → ltb 0 (areaAt p q t) ≡ heldAt (codeY q p) (codeX q p) t
 held p q vp vq t l =
     let op = edges p vp in
     let oq = edges q vq in

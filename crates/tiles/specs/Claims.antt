@@ -12,7 +12,7 @@ use Rattle.pages.specs.Lists.{sum, sumBelow}
 use Rattle.pages.specs.Rectangles.{valid}
 use Rattle.tiles.specs.Tiles.{STRIPS, TILES, areaOf}
 use Rattle.tiles.specs.Calls.{THOUSAND, sharesCall}
-use Rattle.tiles.specs.Names.{within, singles, side, middle, corner, directed, COVERED_BY, STRONG, BOUNDED, CORNER, JUST, codeOnY, codeOnX, stands, codesIn}
+use Rattle.tiles.specs.Names.{within, singles, side, middle, corner, directed, COVERED_BY, STRONG, BOUNDED, CORNER, JUST, codeY, codeX, stands, codesIn}
 use Rattle.tiles.specs.Examples.{Known, known}
 
 abbrev pub added : List ℕ → ℕ
@@ -60,7 +60,7 @@ pub record Claims : Type 0 where
   -- a tile has the whole area of the piece exactly when the piece stands in 000's relation of that name
   pub single : ForTiles (λ p q t. (areaAt p q t ≡ areaOf p) ↔ (getD (singles p q) t false ≡ true))
   -- a tile has some of the piece exactly where its configuration says so, code by code
-  pub held : ForTiles (λ p q t. ltb 0 (areaAt p q t) ≡ (member (codeOnY p q) (codesIn (t / STRIPS)) && member (codeOnX p q) (codesIn (t % STRIPS))))
+  pub held : ForTiles (λ p q t. ltb 0 (areaAt p q t) ≡ (member (codeY q p) (codesIn (t / STRIPS)) && member (codeX q p) (codesIn (t % STRIPS))))
   -- the reference's own tile has the whole area exactly when the piece stands in covered_by
   pub covered : (p q : Rect) → T (valid p) → T (valid q) → (areaOver (within ∷ []) p q ≡ areaOf p) ↔ (stands COVERED_BY p q ≡ true)
   -- the three tiles on the side of a direction have the whole area exactly when the piece is strong or just in that direction

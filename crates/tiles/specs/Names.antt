@@ -93,16 +93,16 @@ CORNER = 4
 abbrev pub JUST : ℕ
 JUST = 6
 
--- "(i, j): i the code on y, j on x", with the piece as p and the reference as q
-abbrev pub codeOnY : Rect → Rect → ℕ
-codeOnY p q = code (p .y1) (p .y2) (q .y1) (q .y2)
+-- "(i, j): i the code on y, j on x", with the piece as p and the reference as q; as `query` has them
+abbrev pub codeY : Rect → Rect → ℕ
+codeY q p = code (p .y1) (p .y2) (q .y1) (q .y2)
 
-abbrev pub codeOnX : Rect → Rect → ℕ
-codeOnX p q = code (p .x1) (p .x2) (q .x1) (q .x2)
+abbrev pub codeX : Rect → Rect → ℕ
+codeX q p = code (p .x1) (p .x2) (q .x1) (q .x2)
 
 -- the piece stands to the reference in relation t
 abbrev pub stands : ℕ → Rect → Rect → Bool
-stands t p q = inRelation t (codeOnY p q) (codeOnX p q)
+stands t p q = inRelation t (codeY q p) (codeX q p)
 
 -- the codes of the sides that have some length before both lines, between them, after both
 abbrev pub codesIn : ℕ → List ℕ
