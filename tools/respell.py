@@ -86,8 +86,11 @@ def antt(text, names, inner):
 
 def rust(text, names):
     lines = []
+    depth = 0
     for line in text.splitlines(keepends=True):
-        ghost = re.match(r"\s*(ghost use|requires|ensures|ghost \w+:)", line)
+        ghost = depth > 0 or re.match(r"\s*(ghost use|requires|ensures|ghost \w+:)", line)
+        if ghost:
+            depth += line.count("{") - line.count("}")
         lines.append(in_text(line, names) if ghost else line)
     return "".join(lines)
 

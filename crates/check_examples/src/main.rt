@@ -2,6 +2,7 @@
 // Standard input has the number of tables, then for each table a line: its name, how many words the slice has, and how many runs
 // of words change. For each run a line follows: its first index, its size and its words. A table starts as the one before it ended,
 // the first from zeros.
+#![tactic(auto)]
 ghost use Rattle.std.specs.Prelude.{◌≤◌};
 
 use libc::STDOUT_FILENO;

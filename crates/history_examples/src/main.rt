@@ -1,4 +1,5 @@
 // Places long lists of pieces, asks queries at their end, and prints what the calls return and leave.
+#![tactic(auto)]
 mod lays;
 mod runs;
 

@@ -1,4 +1,5 @@
 // The job program's work over lent slices: the shape of a job, and the line of each piece and query.
+#![tactic(auto)]
 mod lines;
 mod words;
 
@@ -168,7 +169,7 @@ fn ask(job: &[u8], at: usize, table: &[u32], answer: &mut [u16]) -> Answer
     requires { (WORD_BYTES * (at + QUERY_HEAD + CLAUSE_WORDS * word_at job.now (at + CLAUSE_COUNT_AT)) ≤ length job.now)
         × (TABLE_WORDS ≤ length table.now) × T (sound table.now) }
     ensures { (result, answer.new) ≡ query_sound table.now (rect_at job.now at)
-        (clausesAt job.now (at + QUERY_HEAD) (word_at job.now (at + CLAUSE_COUNT_AT))) answer.old }
+        (clauses_at job.now (at + QUERY_HEAD) (word_at job.now (at + CLAUSE_COUNT_AT))) answer.old }
 {
     let mut clauses = [0u64; CLAUSES_READ];
     let n = least(word_at(job, at + CLAUSE_COUNT_AT) as usize, CLAUSES_READ);
@@ -205,7 +206,7 @@ pub fn answer_query(
     out: &mut [u8],
 ) -> Answered
     requires { T (well_formed job.now) × (i < query_count job.now) × (at ≡ query_start job.now i)
-        × (table.now ≡ table_at job.now (pieceCount job.now)) × (length answer.old ≡ PIECES) × (LINE_BYTES ≤ length out.old) }
+        × (table.now ≡ table_at job.now (piece_count job.now)) × (length answer.old ≡ PIECES) × (LINE_BYTES ≤ length out.old) }
     ensures most { result.length ≤ LINE_BYTES }
     ensures answered { (result, answer.new, out.new) ≡ query_answered job.now i answer.old out.old }
 {

@@ -1,4 +1,5 @@
 // Running a job: its bytes read from one descriptor, its output written to another.
+#![tactic(auto)]
 ghost use Rattle.std.specs.Prelude.{◌≡◌, true, ◌+◌, ◌≤◌, length, take, T};
 ghost use Rattle.pages.specs.Sizes.{TABLE_WORDS, PIECES};
 ghost use Rattle.pages.specs.Calls.{empty_words};
@@ -76,8 +77,8 @@ fn place_pieces(to: i32, bytes: &[u8], pieces: usize, table: &mut [u32], out: &m
         × (LINE_BYTES ≤ length out.old) }
     ensures within { result.used ≤ length out.old }
     ensures placed { result.good ≡ true
-        → (table.new ≡ table_at bytes.now (pieceCount bytes.now))
-        × (take result.used out.new ≡ heldPieces (length out.old) bytes.now) }
+        → (table.new ≡ table_at bytes.now (piece_count bytes.now))
+        × (take result.used out.new ≡ held_pieces (length out.old) bytes.now) }
 {
     let mut used: usize = 0;
     for i in 0..pieces {
@@ -102,8 +103,8 @@ fn answer_queries(
     gathered: usize,
 ) -> Written
     requires { T (well_formed bytes.now) × (queries ≡ query_count bytes.now) × (start ≡ query_start bytes.now 0)
-        × (table.now ≡ table_at bytes.now (pieceCount bytes.now)) × (length answer.old ≡ PIECES) × (LINE_BYTES ≤ length out.old)
-        × (gathered ≤ length out.old) × (take gathered out.old ≡ heldPieces (length out.old) bytes.now) }
+        × (table.now ≡ table_at bytes.now (piece_count bytes.now)) × (length answer.old ≡ PIECES) × (LINE_BYTES ≤ length out.old)
+        × (gathered ≤ length out.old) × (take gathered out.old ≡ held_pieces (length out.old) bytes.now) }
     ensures within { result.used ≤ length out.old }
     ensures answered { result.good ≡ true → take result.used out.new ≡ held_queries (length out.old) bytes.now }
 {
@@ -133,7 +134,7 @@ fn answer_job(
     requires { (length table.old ≡ TABLE_WORDS) × (length answer.old ≡ PIECES) × (LINE_BYTES ≤ length out.old) }
     ensures within { result.used ≤ length out.old }
     ensures gathered { result.good ≡ true
-        → (take result.used out.new ≡ heldAtEnd (length out.old) bytes.now)
+        → (take result.used out.new ≡ held_at_end (length out.old) bytes.now)
         × Gathered (output bytes.now) (take result.used out.new) }
 {
     let shape = job::shape_of(bytes);

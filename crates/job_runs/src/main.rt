@@ -1,4 +1,5 @@
 // Stored jobs, named by the arguments, run one after the other by the code of the job program.
+#![tactic(auto)]
 use libc::STDOUT_FILENO;
 
 fn run_file(path: &[u8]) {

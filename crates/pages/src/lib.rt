@@ -1,9 +1,11 @@
 // The page table as lent words: its sizes, readers over the words of one page, rectangles, and the empty call.
+#![tactic(auto)]
+
 ghost use Rattle.std.specs.Prelude.{◌≡◌, ◌+◌, ◌*◌, ◌≤◌, ◌<◌, min, max, length};
 ghost use Rattle.pages.specs.Sizes.{PAGE_WORDS, PAGES, TABLE_WORDS, FANOUT};
 ghost use Rattle.pages.specs.Rectangles.{rect_of, valid, same_rect, widen, bounds};
 ghost use Rattle.pages.specs.Layout.{page_words};
-ghost use Rattle.pages.specs.Readers.{entry_in, entries_in};
+ghost use Rattle.pages.specs.Readers.{entry-in, entries_in};
 ghost use Rattle.pages.specs.Calls.{empty_call};
 
 // How many piece numbers there are.
@@ -69,7 +71,7 @@ pub const ANSWER_TOO_SHORT: u32 = 8;
 
 // "four 32-bit unsigned numbers x1, y1, x2, y2 in tenths of a millimetre"; "x grows to the east, y to the north".
 #[repr(C)]
-#[derive(Drop)]
+#[derive(Clone, Copy)]
 pub struct Rect {
     pub x1: u32,
     pub y1: u32,
@@ -78,7 +80,7 @@ pub struct Rect {
 }
 
 // In a leaf r is a piece number, above it a child's page number.
-#[derive(Drop)]
+#[derive(Clone, Copy)]
 pub struct Entry {
     pub rect: Rect,
     pub r: u32,
@@ -169,7 +171,7 @@ pub fn page_of(table: &[u32], p: usize) -> &[u32]
 // The entry at place i of a page's words.
 pub fn entry_of(page: &[u32], i: usize) -> Entry
     requires { (length page.now ≡ PAGE_WORDS) × (i < FANOUT) }
-    ensures { result ≡ entry_in page.now i }
+    ensures { result ≡ entry-in page.now i }
 {
     let at = PAGE_HEAD + ENTRY_WORDS * i;
     Entry {

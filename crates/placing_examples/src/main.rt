@@ -1,4 +1,5 @@
 // Places the examples of document 01 and prints what the calls return and leave.
+#![tactic(auto)]
 use pages::{PAGE_WORDS, Rect, TABLE_HEAD};
 use printing::{ask, checksum, edges, number, print_head, range, store, text, word};
 

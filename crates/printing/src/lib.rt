@@ -1,5 +1,6 @@
 // What the example programs print: numbers, sums of words, the answer of a query. A read or a store past the end is harmless here, so
 // that the programs need no bounds.
+#![tactic(auto)]
 ghost use Rattle.std.specs.Prelude.{◌≡◌, ◌≤◌, get_or, set};
 
 use libc::STDOUT_FILENO;

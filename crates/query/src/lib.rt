@@ -1,4 +1,5 @@
 // Queries: the listing of the admitted pieces, the opened pages, and the front part of an answer.
+#![tactic(auto)]
 ghost use Rattle.std.specs.Prelude.{false, cond, ◌≡◌, ◌+◌, ◌*◌, ◌≤◌, ◌<◌, length, get_or, T};
 ghost use Rattle.std.proofs.lemmas.List.Edits.{sets};
 ghost use Rattle.pages.specs.Lists.{concat_map};
@@ -283,7 +284,7 @@ fn walk(
 ) -> u32
     requires { SoundPage table.now.now p level × (length (opened_under (opens_by below.now (reference_of frame.now)) (table_in table.now.now).pages level p) ≤ PAGES) × Known frame.now whole (admits_by rows.now) × Known frame.now whole (opens_by below.now) × (masks.now ≡ node_masks) }
     ensures { (result ≡ length (opened_under (opens_by below.now (reference_of frame.now)) (table_in table.now.now).pages level p))
-        × (marks.new ≡ marked marks.old (hitsUnder (admitsBy rows.now (referenceOf frame.now)) (opensBy below.now (referenceOf frame.now)) (tableIn table.now.now).pages level p)) }
+        × (marks.new ≡ marked marks.old (hits_under (admits_by rows.now (reference_of frame.now)) (opens_by below.now (reference_of frame.now)) (table_in table.now.now).pages level p)) }
 {
     if level == 0 {
         mark_leaf(*table, frame, whole, rows, p, marks);
@@ -324,7 +325,7 @@ fn open_walk(
 ) -> usize
     requires { SoundPage table.now p level × (at + length (opened_under (opens_by below.now (reference_of frame.now)) (table_in table.now).pages level p) ≤ length answer.old) × Known frame.now whole (opens_by below.now) × (masks.now ≡ node_masks) }
     ensures { (result ≡ at + length (opened_under (opens_by below.now (reference_of frame.now)) (table_in table.now).pages level p))
-        × (answer.new ≡ sets answer.old at (openedUnder (opensBy below.now (referenceOf frame.now)) (tableIn table.now).pages level p)) }
+        × (answer.new ≡ sets answer.old at (opened_under (opens_by below.now (reference_of frame.now)) (table_in table.now).pages level p)) }
 {
     answer[at] = p as u16;
     let mut next: usize = at + 1;
@@ -401,7 +402,7 @@ fn level_of(table: &[u32], p: usize) -> usize
 fn search(table: &[u32], reference: Rect, rows: &[u16; CODES], marks: &mut [u64; MARKS]) -> u32
     requires { (TABLE_WORDS ≤ length table.now) × T (sound table.now) × T (valid reference) }
     ensures { (result ≡ length (opened_pages (opens_by (joined_of rows.now) reference) (table_in table.now)))
-        × (marks.new ≡ marked marks.old (hitsFrom (admitsBy rows.now reference) (opensBy (joinedOf rows.now) reference) (tableIn table.now))) }
+        × (marks.new ≡ marked marks.old (hits_from (admits_by rows.now reference) (opens_by (joined_of rows.now) reference) (table_in table.now))) }
 {
     let below = relations::joined(rows);
     let masks = relations::node_masks();
@@ -418,7 +419,7 @@ fn search(table: &[u32], reference: Rect, rows: &[u16; CODES], marks: &mut [u64;
 fn list_opened(table: &[u32], reference: Rect, rows: &[u16; CODES], answer: &mut [u16]) -> usize
     requires { (TABLE_WORDS ≤ length table.now) × T (sound table.now) × (length (table_in table.now).pages ≤ length answer.old) × T (valid reference) }
     ensures { (result ≡ length (opened_pages (opens_by (joined_of rows.now) reference) (table_in table.now)))
-        × (answer.new ≡ sets answer.old 0 (openedPages (opensBy (joinedOf rows.now) reference) (tableIn table.now))) }
+        × (answer.new ≡ sets answer.old 0 (opened_pages (opens_by (joined_of rows.now) reference) (table_in table.now))) }
 {
     let below = relations::joined(rows);
     let masks = relations::node_masks();

@@ -1,5 +1,6 @@
 // Runs the query calls on three tables and prints what they answer: the nine pieces of document 01, a table that place calls
 // never make (three levels, pages in another order, other fills), and the empty one.
+#![tactic(auto)]
 ghost use Rattle.std.specs.Prelude.{◌≤◌};
 
 mod queries;

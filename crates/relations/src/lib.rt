@@ -1,4 +1,6 @@
 // Axis codes, relations, admitted sets, and the thirteen sets of what can stand inside a page.
+#![tactic(auto)]
+
 ghost use Rattle.std.specs.Prelude.{◌≡◌, ℕ, suc, ◌<◌, length, get_or};
 ghost use Rattle.std.specs.Int.Count.{ones};
 ghost use Rattle.relations.specs.Sets.{total, listed};

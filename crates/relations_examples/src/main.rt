@@ -1,4 +1,5 @@
 // Runs the relation layer on the examples of document 01 and on others, and prints what it answers.
+#![tactic(auto)]
 use libc::STDOUT_FILENO;
 use relations::CODES;
 

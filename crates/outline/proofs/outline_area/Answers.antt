@@ -1,0 +1,23 @@
+-- The refusal, or the difference of the two sums, which is the sum of the differences.
+use Rattle.std.proofs.Common.{rules}
+use mathlib.Core.Path.{sym, ap, ◌∙◌}
+use lib.IntN.{pos, ◌-ℤ◌}
+use mir.Facts.{to_z-of_z}
+use Rattle.outline.specs.declared.sums.Products.{Products}
+use Rattle.outline.proofs.Answers.{area-is, area-refused, area-accepted}
+use Rattle.outline.proofs.outline_area.Goals as goal
+
+pub returns-then-refusal-ne-ACCEPTED : goal.returns-then-refusal-ne-ACCEPTED
+returns-then-refusal-ne-ACCEPTED c = area-refused c.args.words.now c.refused-refusal.result c.refused-refusal.ensures c.if-refusal-ne-ACCEPTED.true
+
+pub product_sums-sums-requires : goal.product_sums-sums-requires
+product_sums-sums-requires c = sym c.refused-refusal.ensures ∙ c.if-refusal-ne-ACCEPTED.false
+
+pub difference-requires : goal.difference-requires
+difference-requires c = c.product_sums-sums.ensures.1
+
+pub returns : goal.returns
+returns c =
+    let ws = c.args.words.now in
+    let area = to_z-of_z c.difference.ensures.1 ∙ c.difference.ensures.0 ∙ ap (λ (s : Products). pos s.plus -ℤ pos s.minus) c.product_sums-sums.ensures.0 ∙ area-is _ in
+    area-accepted ws (sym c.refused-refusal.ensures ∙ c.if-refusal-ne-ACCEPTED.false) _ area

@@ -1,0 +1,30 @@
+-- The edge goes down past the point, or up past it, or ends at its height.
+use Rattle.std.proofs.Common.{rules}
+use mathlib.Core.Path.{sym, ap, ◌∙◌}
+use mathlib.Core.Bool.{false}
+use native.Mathlib.Omega.{arith}
+use lib.Dec.{leb}
+use Rattle.outline.specs.declared.point_test.Sides.{Sides}
+use Rattle.outline.proofs.Means.{between-facts}
+use Rattle.outline.proofs.Testing.{rising, falling, all-below, counted}
+use Rattle.outline.proofs.point_test.crossing_of.Goals as goal
+
+pub returns-then-p-e : goal.returns-then-p-e
+returns-then-p-e c =
+    let start = c in
+    let e = start.args.e in
+    let p = start.args.p in
+    let at = between-facts e.b e.d p.y start.requires.0 in
+    let test = ap (λ (s : Sides). leb s.left s.right) start.requires.1 in
+    counted e p _ (falling e p c.if-p-e.true (omega arith) ∙ sym test)
+
+pub returns-then-p-e-2 : goal.returns-then-p-e-2
+returns-then-p-e-2 c =
+    let start = c in
+    let test = ap (λ (s : Sides). leb s.right s.left) start.requires.1 in
+    counted start.args.e start.args.p _ (rising start.args.e start.args.p c.if-p-e.false c.if-p-e-2.true ∙ sym test)
+
+pub returns : goal.returns
+returns c =
+    let start = c in
+    counted start.args.e start.args.p false (all-below start.args.e start.args.p c.if-p-e.false c.if-p-e-2.false)
