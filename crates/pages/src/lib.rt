@@ -5,7 +5,7 @@ ghost use Rattle.std.specs.Prelude.{◌≡◌, ◌+◌, ◌*◌, ◌≤◌, ◌<
 ghost use Rattle.pages.specs.Sizes.{PAGE_WORDS, PAGES, TABLE_WORDS, FANOUT};
 ghost use Rattle.pages.specs.Rectangles.{rect_of, valid, same_rect, widen, bounds};
 ghost use Rattle.pages.specs.Layout.{page_words};
-ghost use Rattle.pages.specs.Readers.{entry-in, entries_in};
+ghost use Rattle.pages.specs.Readers.{entry_in, entries_in};
 ghost use Rattle.pages.specs.Calls.{empty_call};
 
 // How many piece numbers there are.
@@ -171,7 +171,7 @@ pub fn page_of(table: &[u32], p: usize) -> &[u32]
 // The entry at place i of a page's words.
 pub fn entry_of(page: &[u32], i: usize) -> Entry
     requires { (length page.now ≡ PAGE_WORDS) × (i < FANOUT) }
-    ensures { result ≡ entry-in page.now i }
+    ensures { result ≡ entry_in page.now i }
 {
     let at = PAGE_HEAD + ENTRY_WORDS * i;
     Entry {

@@ -10,7 +10,7 @@ ghost use Rattle.pages.specs.Sizes.{PIECES, FANOUT, PAGES, TABLE_WORDS, TOP_LEVE
 ghost use Rattle.pages.specs.Rectangles.{valid};
 ghost use Rattle.pages.specs.Layout.{page_words, table_in};
 ghost use Rattle.pages.specs.Sound.{stored, sound};
-ghost use Rattle.pages.specs.Readers.{entry-in};
+ghost use Rattle.pages.specs.Readers.{entry_in};
 ghost use Rattle.placing.specs.Calls.{placed_words, place_sound, place_call};
 ghost use Rattle.placing.specs.Steps.{split_into, add_to, bounds_at, entry_for_in, reset_entry, widen_entry, settled, written_of, place_at, root_made};
 
@@ -138,7 +138,7 @@ fn settle(table: &mut [u32], p: u32, i: usize, q: u32, new: Rect, split: bool) -
 
 fn child(table: &[u32], p: u32, i: usize) -> u32
     requires { (TABLE_WORDS ≤ length table.now) × (p < PAGES) × (i < FANOUT) }
-    ensures { result ≡ (entry-in (page_words table.now p) i).r }
+    ensures { result ≡ (entry_in (page_words table.now p) i).r }
 {
     pages::entry_of(pages::page_of(table, p as usize), i).r
 }

@@ -4,7 +4,7 @@ ghost use Rattle.pages.specs.Sizes.{FANOUT, PAGE_WORDS, PAGES, TABLE_WORDS};
 ghost use Rattle.pages.specs.Lists.{sum};
 ghost use Rattle.pages.specs.Sound.{is};
 ghost use Rattle.pages.specs.Readers.{entries_in};
-ghost use Rattle.placing.specs.Steps.{held-in, held_below};
+ghost use Rattle.placing.specs.Steps.{held_in, held_below};
 
 use super::words::entry_count;
 use pages::{ENTRY_R, ENTRY_WORDS, FANOUT, LEVEL, PAGE_COUNT, PAGE_HEAD};
@@ -25,7 +25,7 @@ fn has_ref(page: &[u32], n: usize, number: u32) -> bool
 // Whether an entry of a leaf has the r `number`. The count is read only after a match at one of the eight places.
 fn is_held(page: &[u32], number: u32) -> bool
     requires { length page.now ≡ PAGE_WORDS }
-    ensures { result ≡ ltb 0 (held-in page.now number) }
+    ensures { result ≡ ltb 0 (held_in page.now number) }
 {
     if page[LEVEL] != 0 {
         return false;
