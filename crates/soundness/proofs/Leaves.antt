@@ -9,7 +9,7 @@ use Rattle.pages.specs.declared.Rect.{Rect}
 use Rattle.pages.specs.declared.Entry.{Entry}
 use Rattle.pages.specs.Sizes.{PIECES}
 use Rattle.pages.specs.Lists.{sum, Every}
-use Rattle.pages.specs.Rectangles.{widen, widen_all, bounds}
+use Rattle.pages.specs.Rectangles.{widen, widen_all}
 use Rattle.pages.specs.Readers.{entry_in, entries_in}
 use Rattle.pages.specs.Sound.{is}
 use Rattle.pages.proofs.Lists.{not-both}

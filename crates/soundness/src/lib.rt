@@ -1,5 +1,6 @@
 // The check call: one walk over the pages from the root, which tests all that soundness asks.
 #![tactic(auto)]
+
 ghost use Rattle.std.specs.Prelude.{◌≡◌, false, ◌+◌, ◌*◌, ◌≤◌, ◌<◌, length, get_or, drop, set, eqb};
 ghost use Rattle.pages.specs.Sizes.{PIECES, PAGE_HEAD, FANOUT, ENTRY_WORDS, PAGE_WORDS, PAGES, TABLE_WORDS};
 ghost use Rattle.pages.specs.Lists.{one};
