@@ -22,7 +22,7 @@ fn area(r: Rect) -> u64
 }
 
 // An entry to go to: by how much its area grows, its area, and its place in the page.
-#[derive(Drop)]
+#[derive(Clone, Copy)]
 pub struct Best {
     pub growth: u64,
     pub area: u64,

@@ -1,5 +1,6 @@
 // Placing a piece: the way down to a leaf, splits on the way back, and the place call.
 #![tactic(auto)]
+
 mod choice;
 mod order;
 mod search;

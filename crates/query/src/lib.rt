@@ -1,5 +1,6 @@
 // Queries: the listing of the admitted pieces, the opened pages, and the front part of an answer.
 #![tactic(auto)]
+
 ghost use Rattle.std.specs.Prelude.{false, cond, ◌≡◌, ◌+◌, ◌*◌, ◌≤◌, ◌<◌, length, get_or, T};
 ghost use Rattle.std.proofs.lemmas.List.Edits.{sets};
 ghost use Rattle.pages.specs.Lists.{concat_map};
@@ -55,7 +56,7 @@ const END_Y: usize = 7;
 
 // What a query answers: its refusal, how many pieces it listed, and how many pages it opened.
 #[repr(C)]
-#[derive(Drop)]
+#[derive(Clone, Copy)]
 pub struct Answer {
     pub refusal: u32,
     pub hits: u32,
@@ -64,7 +65,7 @@ pub struct Answer {
 
 // What opened pages answers: its refusal, and how many pages it listed.
 #[repr(C)]
-#[derive(Drop)]
+#[derive(Clone, Copy)]
 pub struct Opened {
     pub refusal: u32,
     pub count: u32,
