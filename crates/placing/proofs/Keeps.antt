@@ -15,7 +15,7 @@ use Rattle.pages.specs.Lists.{one, sum, Every}
 use Rattle.pages.specs.Rectangles.{widen, bounds}
 use Rattle.pages.specs.Layout.{Page, page_of, no_entry, no_page, page_at}
 use Rattle.pages.specs.Sound.{child_entries, piece_entries, is}
-use Rattle.pages.proofs.Lists.{every, every-at, at_every, every_map, every-both, every_append, sum-append, sum-set, sum-at, sum-two, sum_zeros}
+use Rattle.pages.proofs.Lists.{every-at, at_every, every_map, every-both, every_append, sum-append, sum-set, sum-at, sum-two, sum_zeros}
 use Rattle.pages.proofs.Entries.{Fits, refit, is_none, unnamed, names, leaves, leaf-children, above-children, above-pieces}
 use Rattle.pages.proofs.Below.{one-le, T-one}
 use Rattle.pages.proofs.Bounds.{bounds-last}

@@ -1,8 +1,6 @@
 -- By the level: a leaf takes the entry, a page above it goes to a child and settles what comes back.
-use Rattle.std.proofs.Common.{rules}
 use native.Mathlib.Omega.{arith}
 use Rattle.placing.proofs.Stepping.{place_out, place-leaf, place-step}
-use Prim.Native.Nat.{ℕ, ◌<◌}
 use Rattle.placing.proofs.+place_at.Goals as goal
 
 pub returns-then-p-ge-PAGES : goal.returns-then-p-ge-PAGES

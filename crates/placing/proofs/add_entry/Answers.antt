@@ -1,7 +1,6 @@
 -- Three cases: room in the page, no page left, a split.
 use Rattle.std.proofs.Common.{rules}
 use native.Mathlib.Omega.{arith}
-use borrow.Author.Tests.{not-true, not-false}
 use Rattle.placing.proofs.Stepping.{room, add-room, add-out, add-split}
 use Rattle.placing.proofs.add_entry.Goals as goal
 

@@ -1,5 +1,4 @@
 -- The bounds of the entries, and zeros where there are none.
-use Rattle.std.proofs.Common.{rules}
 use mathlib.Core.Path.{◌∙◌}
 use Rattle.placing.proofs.Stepping.{bounds-some, bounds-none, bounds-out}
 use Rattle.placing.proofs.bounds_at.Goals as goal

@@ -1,5 +1,4 @@
 -- The r is read in the page's words.
-use Rattle.std.proofs.Common.{rules}
 use mathlib.Core.Path.{ap, ◌∙◌}
 use Rattle.pages.specs.Readers.{entry_in}
 use Rattle.placing.proofs.child.Goals as goal

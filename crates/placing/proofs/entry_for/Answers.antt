@@ -1,5 +1,4 @@
 -- The bounds and the page number.
-use Rattle.std.proofs.Common.{rules}
 use mathlib.Core.Path.{ap}
 use Rattle.pages.specs.Rectangles.{entry_of}
 use Rattle.placing.proofs.entry_for.Goals as goal

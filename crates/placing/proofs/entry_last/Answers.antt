@@ -1,5 +1,4 @@
 -- The last page is the one below k.
-use Rattle.std.proofs.Common.{rules}
 use mathlib.Core.Path.{ap, ◌∙◌}
 use Rattle.placing.specs.Steps.{entry_for_in}
 use Rattle.placing.proofs.entry_last.Goals as goal

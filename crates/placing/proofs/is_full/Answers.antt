@@ -1,5 +1,4 @@
 -- The count is read in the page's words.
-use Rattle.std.proofs.Common.{rules}
 use native.Mathlib.Omega.{arith}
 use mathlib.Core.Path.{ap}
 use lib.Dec.{leb}

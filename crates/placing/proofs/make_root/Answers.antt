@@ -1,5 +1,4 @@
 -- Two entries of the nine are written.
-use Rattle.std.proofs.Common.{rules}
 use native.Mathlib.Omega.{arith}
 use lib.ListN.{length-set}
 use Rattle.placing.proofs.Stepping.{root-out, root-made}

@@ -1,5 +1,4 @@
 -- By the answer of the check: too short, not sound, or a call on a sound table.
-use Rattle.std.proofs.Common.{rules}
 use mathlib.Core.Path.{sym, ◌∙◌}
 use Rattle.soundness.proofs.Answers.{checked-sound}
 use Rattle.placing.proofs.Tested.{call-tested, call-refused}

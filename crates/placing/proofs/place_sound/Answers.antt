@@ -1,7 +1,5 @@
 -- Each refusal by its condition; what none of them says is what `place_new` asks for.
-use Rattle.std.proofs.Common.{rules}
 use mathlib.Core.Path.{sym, ap, ◌∙◌}
-use borrow.Author.Tests.{not-true, not-false}
 use Rattle.pages.specs.Refusals.{ACCEPTED}
 use Rattle.pages.proofs.Lists.{true-T}
 use Rattle.placing.proofs.Searching.{some-held, none-held}

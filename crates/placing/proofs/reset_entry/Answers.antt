@@ -1,5 +1,4 @@
 -- The entry is made from the words before it is written.
-use Rattle.std.proofs.Common.{rules}
 use Rattle.placing.proofs.Stepping.{reset-is}
 use Rattle.placing.proofs.reset_entry.Goals as goal
 

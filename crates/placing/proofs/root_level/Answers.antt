@@ -1,5 +1,4 @@
 -- The level is read in the root's words.
-use Rattle.std.proofs.Common.{rules}
 use mathlib.Core.Path.{ap}
 use lib.ListN.{get_or}
 use Rattle.placing.proofs.root_level.Goals as goal

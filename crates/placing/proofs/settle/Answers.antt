@@ -1,6 +1,4 @@
 -- Two cases: the child was split, or not.
-use Rattle.std.proofs.Common.{rules}
-use borrow.Author.Tests.{not-true, not-false}
 use Rattle.placing.proofs.Stepping.{settled-split, settled-kept}
 use Rattle.placing.proofs.settle.Goals as goal
 

@@ -1,6 +1,4 @@
 -- Two cases: the root was split, or not.
-use Rattle.std.proofs.Common.{rules}
-use borrow.Author.Tests.{not-true, not-false}
 use Rattle.placing.proofs.settle_root.Goals as goal
 
 pub returns-then-not-split : goal.returns-then-not-split

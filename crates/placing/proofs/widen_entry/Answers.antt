@@ -1,5 +1,4 @@
 -- The old entry is read before the widened one is written.
-use Rattle.std.proofs.Common.{rules}
 use Rattle.placing.proofs.Stepping.{widen-is}
 use Rattle.placing.proofs.widen_entry.Goals as goal
 

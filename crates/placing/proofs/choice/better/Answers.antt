@@ -1,5 +1,4 @@
 -- The first only if it comes strictly before.
-use Rattle.std.proofs.Common.{rules}
 use Rattle.placing.proofs.Choosing.{better-first, better-second}
 use Rattle.placing.proofs.choice.better.Goals as goal
 

@@ -1,10 +1,7 @@
 -- One entry more is compared with the best so far.
 use Rattle.std.proofs.Common.{rules}
 use native.Mathlib.Omega.{arith}
-use Prim.Native.Nat.{◌≤◌, ◌-◌, max}
-use mathlib.Core.Path.{◌≡◌}
-use Rattle.pages.specs.Readers.{entries_in}
-use Rattle.placing.proofs.Choosing.{best_for, best-first, best-more, best-done}
+use Rattle.placing.proofs.Choosing.{best-first, best-more, best-done}
 use Rattle.placing.proofs.choice.choose.Goals as goal
 
 pub loop-i-init : goal.loop-i-init

@@ -1,8 +1,7 @@
-use native.Mathlib.Omega.{arith}
 use Prim.Native.Nat.{◌≤◌, ◌-◌, max}
 use mathlib.Core.Path.{◌≡◌}
 use Rattle.pages.specs.Readers.{entries_in}
-use Rattle.placing.proofs.Choosing.{best_for, best-first, best-more, best-done}
+use Rattle.placing.proofs.Choosing.{best_for}
 use Rattle.placing.proofs.choice.choose.Given as goal
 
 abbrev pub invariant-loop-i : goal.invariant-loop-i

@@ -1,5 +1,4 @@
 -- The area decides where the growth is the same.
-use Rattle.std.proofs.Common.{rules}
 use Rattle.placing.proofs.Choosing.{before-tie, before-other}
 use Rattle.placing.proofs.choice.comes_before.Goals as goal
 

@@ -1,5 +1,4 @@
 -- A widened rectangle has no smaller area, so the difference does not wrap.
-use Rattle.std.proofs.Common.{rules}
 use Rattle.placing.proofs.Choosing.{cost-is, cost-fits}
 use Rattle.placing.proofs.choice.cost.Goals as goal
 

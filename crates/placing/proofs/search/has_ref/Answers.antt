@@ -1,10 +1,7 @@
 -- No place passed has the number.
 use Rattle.std.proofs.Common.{rules}
 use native.Mathlib.Omega.{arith}
-use Prim.Native.Nat.{ℕ, ◌≤◌, ◌<◌, ◌-◌}
-use mathlib.Core.Path.{◌≡◌}
 use borrow.Author.Count.{below_more}
-use Rattle.pages.specs.Readers.{entry_in}
 use Rattle.placing.proofs.Searching.{ref-at, ref-none}
 use Rattle.placing.proofs.search.has_ref.Goals as goal
 

@@ -1,9 +1,6 @@
-use native.Mathlib.Omega.{arith}
 use Prim.Native.Nat.{ℕ, ◌≤◌, ◌<◌, ◌-◌}
 use mathlib.Core.Path.{◌≡◌}
-use borrow.Author.Count.{below_more}
 use Rattle.pages.specs.Readers.{entry_in}
-use Rattle.placing.proofs.Searching.{ref-at, ref-none}
 use Rattle.placing.proofs.search.has_ref.Given as goal
 
 abbrev pub invariant-loop-i : goal.invariant-loop-i

@@ -1,6 +1,4 @@
 -- Without a match at eight places there is none among the entries.
-use Rattle.std.proofs.Common.{rules}
-use borrow.Author.Tests.{not-true}
 use Rattle.placing.proofs.Searching.{held-above, held-not, held-is}
 use Rattle.placing.proofs.search.is_held.Goals as goal
 

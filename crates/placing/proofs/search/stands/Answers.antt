@@ -1,8 +1,6 @@
 -- No page passed holds the number.
 use Rattle.std.proofs.Common.{rules}
-use Prim.Native.Nat.{◌≤◌, ◌-◌}
-use mathlib.Core.Path.{◌≡◌, sym, ◌∙◌}
-use Rattle.placing.specs.Steps.{held_below}
+use mathlib.Core.Path.{sym, ◌∙◌}
 use Rattle.placing.proofs.Searching.{below_none, below_more, below-some, below_all}
 use Rattle.placing.proofs.search.stands.Goals as goal
 

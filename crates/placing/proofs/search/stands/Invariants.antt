@@ -1,7 +1,6 @@
 use Prim.Native.Nat.{◌≤◌, ◌-◌}
-use mathlib.Core.Path.{◌≡◌, sym, ◌∙◌}
+use mathlib.Core.Path.{◌≡◌}
 use Rattle.placing.specs.Steps.{held_below}
-use Rattle.placing.proofs.Searching.{below_none, below_more, below-some, below_all}
 use Rattle.placing.proofs.search.stands.Given as goal
 
 abbrev pub invariant-loop-p : goal.invariant-loop-p

@@ -1,5 +1,4 @@
 -- The entry is written at the count, which then rises.
-use Rattle.std.proofs.Common.{rules}
 use mathlib.Core.Path.{refl}
 use Rattle.placing.proofs.Writing.{appended-is}
 use Rattle.placing.proofs.words.append_entry.Goals as goal

@@ -1,5 +1,4 @@
 -- A word fits.
-use Rattle.std.proofs.Common.{rules}
 use native.Mathlib.Omega.{arith}
 use Rattle.placing.proofs.words.entry_count.Goals as goal
 

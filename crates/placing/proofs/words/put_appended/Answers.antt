@@ -1,5 +1,4 @@
 -- The part that was lent comes back.
-use Rattle.std.proofs.Common.{rules}
 use native.Mathlib.Omega.{arith}
 use native.Mathlib.Nat.{add-sub_cancel_left}
 use lib.ListN.{length-take, length-drop}

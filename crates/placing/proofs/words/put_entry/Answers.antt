@@ -1,5 +1,4 @@
 -- The part that was lent comes back.
-use Rattle.std.proofs.Common.{rules}
 use native.Mathlib.Nat.{add-sub_cancel_left}
 use Rattle.placing.proofs.Writing.{part-back}
 use Rattle.placing.proofs.words.put_entry.Goals as goal

@@ -1,5 +1,4 @@
 -- The part that was lent comes back.
-use Rattle.std.proofs.Common.{rules}
 use Rattle.placing.proofs.Writing.{part-back}
 use Rattle.placing.proofs.words.put_page.Goals as goal
 

@@ -1,11 +1,9 @@
 -- The words before the next entry are those of the page.
 use Rattle.std.proofs.Common.{rules}
 use native.Mathlib.Omega.{arith}
-use mathlib.Core.Path.{◌≡◌, ap, ◌∙◌}
-use Prim.Native.Nat.{◌≤◌, ◌-◌}
+use mathlib.Core.Path.{ap, ◌∙◌}
 use lib.ListN.{length, take, drop, length-set}
-use Rattle.pages.specs.Sizes.{FANOUT, PAGE_WORDS}
-use Rattle.placing.proofs.Writing.{entry_length, WrittenTo, written_none, written-more, written_all}
+use Rattle.placing.proofs.Writing.{entry_length, written_none, written-more, written_all}
 use Rattle.placing.proofs.words.write_page.Goals as goal
 
 pub loop-i-init : goal.loop-i-init

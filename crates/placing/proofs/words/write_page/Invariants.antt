@@ -1,9 +1,8 @@
-use native.Mathlib.Omega.{arith}
-use mathlib.Core.Path.{◌≡◌, ap, ◌∙◌}
+use mathlib.Core.Path.{◌≡◌}
 use Prim.Native.Nat.{◌≤◌, ◌-◌}
-use lib.ListN.{length, take, drop, length-set}
+use lib.ListN.{length, take, drop}
 use Rattle.pages.specs.Sizes.{FANOUT, PAGE_WORDS}
-use Rattle.placing.proofs.Writing.{entry_length, WrittenTo, written_none, written-more, written_all}
+use Rattle.placing.proofs.Writing.{WrittenTo}
 use Rattle.placing.proofs.words.write_page.Given as goal
 
 abbrev pub invariant-loop-i : goal.invariant-loop-i
