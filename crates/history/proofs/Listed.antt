@@ -15,7 +15,7 @@ use Rattle.pages.specs.declared.Entry.{Entry}
 use Rattle.pages.specs.Sizes.{PIECES}
 use Rattle.pages.specs.Lists.{one, sum_below}
 use Rattle.pages.specs.Layout.{Table, table_in}
-use Rattle.pages.specs.Sound.{is, sound}
+use Rattle.pages.specs.Sound.{is}
 use Rattle.pages.proofs.Counting.{count-few}
 use Rattle.pages.proofs.Entries.{leaves}
 use Rattle.pages.proofs.Whole.{sound-in}

@@ -1,5 +1,6 @@
 // Lists of place calls. specs/Demand3 states what their tables answer; `replay` runs a list that is given as words.
 #![tactic(auto)]
+
 ghost use Rattle.std.specs.Prelude.{◌≡◌, ◌+◌, ◌≤◌, ◌<◌, length, get_or, T};
 ghost use Rattle.pages.specs.Sizes.{PIECES, TABLE_WORDS};
 ghost use Rattle.pages.specs.Rectangles.{rect_of};
