@@ -1,5 +1,6 @@
 // A lay turned by a quarter, clockwise: its rectangles and its clauses. specs/Claims states that the answers stay the same.
 #![tactic(auto)]
+
 ghost use Rattle.std.specs.Prelude.{◌≡◌};
 ghost use Rattle.turning.specs.Turn.{turned_rect, turn_clause};
 
