@@ -1,5 +1,6 @@
 // The job program's work over lent slices: the shape of a job, and the line of each piece and query.
 #![tactic(auto)]
+
 mod lines;
 mod words;
 
