@@ -1,5 +1,6 @@
 // Exports for the benchmarks alone: the inner calls, run many times on a table that is tested once.
 #![tactic(auto)]
+
 ghost use Rattle.std.specs.Prelude.{◌≡◌};
 ghost use Rattle.history.specs.Replay.{replay_call};
 ghost use Rattle.finder_bench.specs.Asked.{asked_all};
