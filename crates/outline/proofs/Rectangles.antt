@@ -11,7 +11,6 @@ use lib.Dec.{leb, ltb, eqb}
 use borrow.Author.Tests.{le-leb, lt-leb, lt-ltb, le-ltb, eq-eqb, ne_eqb}
 use Rattle.outline.specs.declared.Point.{Point}
 use Rattle.outline.specs.declared.Place.{Place}
-use Rattle.outline.specs.declared.Place.TheVariants as Place
 use Rattle.outline.specs.Outline.{FARTHEST, point, path, edges}
 use Rattle.outline.specs.Place.{apart, meets_ray, counts, between, is_on_edge, on_any, crossings, odd, place_of, number_of}
 use Rattle.outline.specs.Refusals.{ACCEPTED}

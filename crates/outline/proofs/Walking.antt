@@ -8,7 +8,6 @@ use lib.ListN.{length, drop}
 use Rattle.outline.specs.declared.Point.{Point}
 use Rattle.outline.specs.declared.Edge.{Edge}
 use Rattle.outline.specs.declared.Place.{Place}
-use Rattle.outline.specs.declared.Place.TheVariants as Place
 use Rattle.outline.specs.Outline.{points, edges}
 use Rattle.outline.specs.Place.{is_on_edge, on_any, crossings, odd, place_of}
 use Rattle.outline.specs.Steps.{edge_at, crossing}

@@ -7,7 +7,6 @@ use Rattle.outline.specs.declared.Edge.{Edge}
 use Rattle.outline.specs.declared.Area.{Area}
 use Rattle.outline.specs.declared.Located.{Located}
 use Rattle.outline.specs.declared.Place.{Place}
-use Rattle.outline.specs.declared.Place.TheVariants as Place
 use Rattle.outline.specs.Outline.{FARTHEST, point, points, edges}
 use Rattle.outline.specs.Place.{parts, x_there, meets_ray, counts, is_on_edge, on_any, crossings, odd, number_of}
 use Rattle.outline.specs.Refusals.{ACCEPTED}

@@ -3,7 +3,6 @@ use Rattle.std.specs.Prelude.{ℕ, ◌+◌, ◌*◌, ◌-◌, ◌%◌, min, max,
 use Rattle.outline.specs.declared.Point.{Point}
 use Rattle.outline.specs.declared.Edge.{Edge}
 use Rattle.outline.specs.declared.Place.{Place}
-use Rattle.outline.specs.declared.Place.TheVariants as Place
 
 -- how far two heights are apart
 abbrev pub apart : ℕ → ℕ → ℕ

@@ -1,5 +1,4 @@
 -- The refusal, or the difference of the two sums, which is the sum of the differences.
-use Rattle.std.proofs.Common.{rules}
 use mathlib.Core.Path.{sym, ap, ◌∙◌}
 use lib.IntN.{pos, ◌-ℤ◌}
 use mir.Facts.{to_z-of_z}
@@ -14,10 +13,10 @@ pub product_sums-sums-requires : goal.product_sums-sums-requires
 product_sums-sums-requires c = sym c.refused-refusal.ensures ∙ c.if-refusal-ne-ACCEPTED.false
 
 pub difference-requires : goal.difference-requires
-difference-requires c = c.product_sums-sums.ensures.1
+difference-requires c = let m = c.product_sums-sums.ensures.most in record { plus = m.0; minus = m.1 }
 
 pub returns : goal.returns
 returns c =
     let ws = c.args.words.now in
-    let area = to_z-of_z c.difference.ensures.1 ∙ c.difference.ensures.0 ∙ ap (λ (s : Products). pos s.plus -ℤ pos s.minus) c.product_sums-sums.ensures.0 ∙ area-is _ in
+    let area = to_z-of_z c.difference.ensures.fits ∙ c.difference.ensures.difference ∙ ap (λ (s : Products). pos s.plus -ℤ pos s.minus) c.product_sums-sums.ensures.sums ∙ area-is _ in
     area-accepted ws (sym c.refused-refusal.ensures ∙ c.if-refusal-ne-ACCEPTED.false) _ area

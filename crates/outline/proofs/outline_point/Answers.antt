@@ -1,5 +1,4 @@
 -- The refusal, or the place's number.
-use Rattle.std.proofs.Common.{rules}
 use mathlib.Core.Path.{sym, ap, ◌∙◌}
 use Prim.Native.Nat.{ℕ}
 use Rattle.outline.proofs.Answers.{accepted-both, point-refused, point-accepted}
@@ -13,11 +12,12 @@ returns-then-refusal-ne-ACCEPTED c =
 pub place_of-place-requires : goal.place_of-place-requires
 place_of-place-requires c =
     let a = c.args in
-    accepted-both a.words.now a.x a.y (sym c.refused_with-refusal.ensures ∙ c.if-refusal-ne-ACCEPTED.false)
+    let both = accepted-both a.words.now a.x a.y (sym c.refused_with-refusal.ensures ∙ c.if-refusal-ne-ACCEPTED.false) in
+    record { accepted = both.0; point = both.1 }
 
 pub returns : goal.returns
 returns c =
     let a = c.args in
     let fine = sym c.refused_with-refusal.ensures ∙ c.if-refusal-ne-ACCEPTED.false in
-    ap (λ (n : ℕ). record { refusal = 0; place = n }) c.number_of_lem.ensures
+    ap (λ (n : ℕ). record { refusal = 0; place = n }) c.number_of.ensures
     ∙ point-accepted a.words.now a.x a.y fine _ c.place_of-place.ensures

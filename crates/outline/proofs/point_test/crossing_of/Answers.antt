@@ -1,5 +1,4 @@
 -- The edge goes down past the point, or up past it, or ends at its height.
-use Rattle.std.proofs.Common.{rules}
 use mathlib.Core.Path.{sym, ap, ◌∙◌}
 use mathlib.Core.Bool.{false}
 use native.Mathlib.Omega.{arith}
@@ -14,17 +13,20 @@ returns-then-p-e c =
     let start = c in
     let e = start.args.e in
     let p = start.args.p in
-    let at = between-facts e.b e.d p.y start.requires.0 in
-    let test = ap (λ (s : Sides). leb s.left s.right) start.requires.1 in
-    counted e p _ (falling e p c.if-p-e.true (omega arith) ∙ sym test)
+    let at = between-facts e.b e.d p.y start.requires.height in
+    let test = ap (λ (s : Sides). leb s.left s.right) start.requires.sides in
+    let both = counted e p _ (falling e p c.if-p-e.true (omega arith) ∙ sym test) in
+    record { crossing = both.0; most = both.1 }
 
 pub returns-then-p-e-2 : goal.returns-then-p-e-2
 returns-then-p-e-2 c =
     let start = c in
-    let test = ap (λ (s : Sides). leb s.right s.left) start.requires.1 in
-    counted start.args.e start.args.p _ (rising start.args.e start.args.p c.if-p-e.false c.if-p-e-2.true ∙ sym test)
+    let test = ap (λ (s : Sides). leb s.right s.left) start.requires.sides in
+    let both = counted start.args.e start.args.p _ (rising start.args.e start.args.p c.if-p-e.false c.if-p-e-2.true ∙ sym test) in
+    record { crossing = both.0; most = both.1 }
 
 pub returns : goal.returns
 returns c =
     let start = c in
-    counted start.args.e start.args.p false (all-below start.args.e start.args.p c.if-p-e.false c.if-p-e-2.false)
+    let both = counted start.args.e start.args.p false (all-below start.args.e start.args.p c.if-p-e.false c.if-p-e-2.false) in
+    record { crossing = both.0; most = both.1 }

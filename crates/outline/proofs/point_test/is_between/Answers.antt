@@ -1,5 +1,4 @@
 -- The lesser of the two ends is tested first.
-use Rattle.std.proofs.Common.{rules}
 use native.Mathlib.Omega.{arith}
 use Rattle.outline.proofs.Testing.{between-below, between-above}
 use Rattle.outline.proofs.point_test.is_between.Goals as goal

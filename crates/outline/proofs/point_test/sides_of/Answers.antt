@@ -1,5 +1,4 @@
 -- Six products, three on each side.
-use Rattle.std.proofs.Common.{rules}
 use mathlib.Core.Path.{ap₂}
 use native.Mathlib.Omega.{arith}
 use Prim.Native.Nat.{ℕ}
@@ -13,5 +12,5 @@ pub returns : goal.returns
 returns c =
     let third = c in
     ap₂ both
-    (omega (arith, third.product.ensures.0, third.product-2.ensures.0, third.product-3.ensures.0))
-    (omega (arith, c.product-4.ensures.0, c.product-5.ensures.0, c.product-6.ensures.0))
+    (omega (arith, third.product.ensures.product, third.product-2.ensures.product, third.product-3.ensures.product))
+    (omega (arith, c.product-4.ensures.product, c.product-5.ensures.product, c.product-6.ensures.product))

@@ -1,5 +1,4 @@
 -- Both numbers are far below 2 ^ 63.
-use Rattle.std.proofs.Common.{rules}
 use Prim.Native.Nat.{ℕ, ◌≤◌}
 use mathlib.Core.Path.{◌≡◌, sym, subst, ap₂, ◌∙◌}
 use native.Mathlib.Omega.{arith}
@@ -18,10 +17,10 @@ fits : (p m : ℕ) → p ≤ MOST_SUM → m ≤ MOST_SUM → SFits w64 (pos p -�
 fits p m a b = let n = mag-minus p m (MOST_SUM) a b in record { sfits = omega arith }
 
 pub overflow_sub-result : goal.overflow_sub-result
-overflow_sub-result c = subst (SFits w64) (sym (read c.args.plus c.args.minus c.requires.0 c.requires.1)) (fits c.args.plus c.args.minus c.requires.0 c.requires.1)
+overflow_sub-result c = subst (SFits w64) (sym (read c.args.plus c.args.minus c.requires.plus c.requires.minus)) (fits c.args.plus c.args.minus c.requires.plus c.requires.minus)
 
 pub returns : goal.returns
 returns c =
-    let f = fits c.args.plus c.args.minus c.requires.0 c.requires.1 in
-    let e = to_z-of_z (sub-result c) ∙ read c.args.plus c.args.minus c.requires.0 c.requires.1 in
-    (e, subst (SFits w64) (sym e) f)
+    let f = fits c.args.plus c.args.minus c.requires.plus c.requires.minus in
+    let e = to_z-of_z (overflow_sub-result c) ∙ read c.args.plus c.args.minus c.requires.plus c.requires.minus in
+    record { difference = e; fits = subst (SFits w64) (sym e) f }

@@ -1,5 +1,4 @@
 -- Both factors are at most a million, so the product is at most their square.
-use Rattle.std.proofs.Common.{rules}
 use mathlib.Core.Path.{refl}
 use native.Mathlib.Nat.{mul-le-mul}
 use native.Mathlib.Omega.{arith}
@@ -12,7 +11,7 @@ at_most : (v w : ℕ) → v ≤ FARTHEST → w ≤ FARTHEST → v * w ≤ LARGES
 at_most v w a b = mul-le-mul a b
 
 pub overflow_mul-result : goal.overflow_mul-result
-overflow_mul-result c = let m = at_most c.args.v c.args.w c.requires.0 c.requires.1 in omega arith
+overflow_mul-result c = let m = at_most c.args.v c.args.w c.requires.first c.requires.second in omega arith
 
 pub returns : goal.returns
-returns c = (refl, at_most c.args.v c.args.w c.requires.0 c.requires.1)
+returns c = record { product = refl; most = at_most c.args.v c.args.w c.requires.first c.requires.second }

@@ -1,12 +1,8 @@
-use Prim.Native.Nat.{ℕ, ◌+◌, ◌*◌, ◌/◌, ◌-◌, ◌≤◌, ◌<◌}
-use mathlib.Core.Path.{◌≡◌, ap, ap₂, ◌∙◌}
-use native.Mathlib.Omega.{arith}
+use Prim.Native.Nat.{◌+◌, ◌*◌, ◌/◌, ◌-◌, ◌≤◌}
+use mathlib.Core.Path.{◌≡◌}
 use lib.ListN.{length, drop}
-use Rattle.outline.specs.declared.Edge.{Edge}
-use Rattle.outline.specs.declared.sums.Products.{Products}
 use Rattle.outline.specs.Outline.{points, edges}
 use Rattle.outline.specs.Steps.{LARGEST, plus_of, minus_of}
-use Rattle.outline.proofs.Indexed.{accepted-fine, plus_step, minus-step, plus-end, minus-end}
 use Rattle.outline.proofs.sums.product_sums.Given as goal
 
 abbrev pub invariant-loop-i : goal.invariant-loop-i

@@ -1,13 +1,9 @@
 -- Those beyond the range among the words passed, and the test of the words left, make up the test of all.
-use Rattle.std.proofs.Common.{rules}
-use Prim.Native.Nat.{◌≤◌, ◌-◌}
-use mathlib.Core.Path.{◌≡◌, refl, sym, ◌∙◌}
-use mathlib.Core.Bool.{◌&&◌}
+use mathlib.Core.Path.{refl, sym, ◌∙◌}
 use native.Mathlib.Omega.{arith}
-use lib.Dec.{ltb, eqb}
-use lib.ListN.{length, get_or, drop}
+use lib.Dec.{ltb}
+use lib.ListN.{get_or}
 use Rattle.outline.specs.Outline.{FARTHEST}
-use Rattle.outline.specs.Refusals.{within}
 use Rattle.outline.proofs.Tests.{byte-most}
 use Rattle.outline.proofs.Indexed.{within_step, within_end}
 use Rattle.outline.proofs.words.are_within.Goals as goal

@@ -1,5 +1,4 @@
 -- Each test decides the chain of tests.
-use Rattle.std.proofs.Common.{rules}
 use mathlib.Core.Bool.{or-true}
 use borrow.Author.Tests.{eq-eqb, ne_eqb, lt-ltb, le-ltb}
 use Rattle.outline.specs.Refusals.{wrong_count}

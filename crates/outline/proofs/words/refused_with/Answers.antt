@@ -1,5 +1,4 @@
 -- The refusals of the words, then those of the point.
-use Rattle.std.proofs.Common.{rules}
 use mathlib.Core.Path.{sym, ap, ◌∙◌}
 use mathlib.Core.Bool.{Bool, ◌&&◌, and-false}
 use lib.Dec.{leb}
