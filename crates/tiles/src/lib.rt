@@ -1,5 +1,6 @@
 // How a piece is shared among the nine tiles into which the edge lines of a reference cut the plane. It knows nothing of page tables.
 #![tactic(auto)]
+
 ghost use Rattle.std.specs.Prelude.{◌≡◌, ◌≤◌, ◌<◌, min, max, T};
 ghost use Rattle.pages.specs.Rectangles.{valid};
 ghost use Rattle.tiles.specs.Tiles.{area_of, area_in};
