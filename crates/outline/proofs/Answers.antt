@@ -1,13 +1,13 @@
 -- The two calls by their cases.
-use Prim.Native.Nat.{ℕ, ◌*◌, ◌≤◌}
+use Prim.Native.Nat.{ℕ, ◌*◌, ◌≤◌, ◌<◌}
 use native.Mathlib.Omega.{arith}
 use mathlib.Core.Path.{◌≡◌, refl, sym, ap, ◌∙◌}
-use mathlib.Core.Bool.{Bool, true, false, ◌&&◌, cond, false≢true}
+use mathlib.Core.Bool.{Bool, true, false, ◌&&◌, cond, and-false, false≢true}
 use mathlib.Core.List.{List, [], ◌∷◌}
 use lib.Dec.{leb}
 use lib.IntN.{ℤ, pos, ◌+ℤ◌, ◌-ℤ◌}
 use lib.ListN.{length}
-use borrow.Author.Tests.{ne_eqb, le-leb, leb-true}
+use borrow.Author.Tests.{ne_eqb, le-leb, lt-leb, leb-true}
 use Rattle.outline.specs.declared.Edge.{Edge}
 use Rattle.outline.specs.declared.Place.{Place}
 use Rattle.outline.specs.Outline.{FARTHEST, point, points, edges}
@@ -64,6 +64,13 @@ module _ (ws : List ℕ) (x y : ℕ) where
   pub refusal-beyond : outline_refusal ws ws ≡ 0 → (leb x FARTHEST && leb y FARTHEST) ≡ false → outline_refusal ws (x ∷ (y ∷ ws)) ≡ COORDINATE_TOO_LARGE
   unfolding outline_refusal within
   refusal-beyond e f = chosen-beyond (wrong_count (length ws)) (leb x FARTHEST) (leb y FARTHEST) (within ws) e f
+
+  -- one of the point's two coordinates is beyond the range
+  pub refusal_beyond_x : outline_refusal ws ws ≡ 0 → FARTHEST < x → outline_refusal ws (x ∷ (y ∷ ws)) ≡ COORDINATE_TOO_LARGE
+  refusal_beyond_x e h = refusal-beyond e (ap (λ (t : Bool). t && leb y FARTHEST) (lt-leb x FARTHEST h))
+
+  pub refusal_beyond_y : outline_refusal ws ws ≡ 0 → FARTHEST < y → outline_refusal ws (x ∷ (y ∷ ws)) ≡ COORDINATE_TOO_LARGE
+  refusal_beyond_y e h = refusal-beyond e (ap (λ (t : Bool). leb x FARTHEST && t) (lt-leb y FARTHEST h) ∙ and-false (leb x FARTHEST))
 
   pub refusal-none : outline_refusal ws ws ≡ 0 → x ≤ FARTHEST → y ≤ FARTHEST → outline_refusal ws (x ∷ (y ∷ ws)) ≡ 0
   unfolding outline_refusal within

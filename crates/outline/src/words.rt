@@ -50,6 +50,7 @@ pub fn refused(words: &[u32]) -> u32
 }
 
 // An outline and a point: the outline's words are tested first.
+#[tactic(auto, using(crate::proofs::Answers::refusal_beyond_x, crate::proofs::Answers::refusal_beyond_y))]
 pub fn refused_with(words: &[u32], p: Point) -> u32
     ensures { result ≡ outline_refusal words.now (p.x ∷ (p.y ∷ words.now)) }
 {

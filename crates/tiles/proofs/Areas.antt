@@ -22,17 +22,12 @@ module _ (r : Rect) where
 
   squares-same : (f g : ℕ → ℕ → ℕ) → ((x y : ℕ) → f x y ≡ g x y) → over_squares r f ≡ over_squares r g
   unfolding over_squares
-  squares-same f g e =
-      below-same height (λ b. sum_below width (λ a. f (r.x1 + a) (r.y1 + b))) (λ b. sum_below width (λ a. g (r.x1 + a) (r.y1 + b)))
-      (λ b _. below-same width (λ a. f (r.x1 + a) (r.y1 + b)) (λ a. g (r.x1 + a) (r.y1 + b)) (λ a _. e (r.x1 + a) (r.y1 + b)))
+  squares-same f g e = below-same _ _ _ (λ b _. below-same _ _ _ (λ a _. e (r.x1 + a) (r.y1 + b)))
 
   -- the order of two sums may be changed
   squares-below : (n : ℕ) (f : ℕ → ℕ → ℕ → ℕ) → sum_below n (λ t. over_squares r (f t)) ≡ over_squares r (λ x y. sum_below n (λ t. f t x y))
   unfolding over_squares
-  squares-below n f =
-      below-swap n height (λ t b. sum_below width (λ a. f t (r.x1 + a) (r.y1 + b)))
-      ∙ below-same height (λ b. sum_below n (λ t. sum_below width (λ a. f t (r.x1 + a) (r.y1 + b)))) (λ b. sum_below width (λ a. sum_below n (λ t. f t (r.x1 + a) (r.y1 + b))))
-      (λ b _. below-swap n width (λ t a. f t (r.x1 + a) (r.y1 + b)))
+  squares-below n f = below-swap n _ _ ∙ below-same _ _ _ (λ b _. below-swap n _ (λ t a. f t (r.x1 + a) (r.y1 + b)))
 
   -- a weight that is a product of one for each axis
   squares-product : (g f : ℕ → ℕ) → over_squares r (λ x y. g y * f x) ≡ sum_below height (λ b. g (r.y1 + b)) * sum_below width (λ a. f (r.x1 + a))

@@ -6,7 +6,7 @@ use mathlib.Core.Path.{◌≡◌, refl, ap, ap₂, ◌∙◌}
 use mathlib.Core.List.{[], ◌∷◌}
 use lib.Dec.{eqb}
 use lib.ListN.{get_or}
-use borrow.Author.Tests.{le-leb, lt-leb}
+use Rattle.std.proofs.lemmas.Bool.Decides.{nat_tests}
 use Rattle.relations.specs.Sets.{listed}
 use Rattle.relations.proofs.Bits.{listed_at}
 use Rattle.pages.specs.Sizes.{EDGE}
@@ -16,15 +16,15 @@ use Rattle.tiles.specs.Steps.{units_in, cut_at, Short}
 
 strip-before : (q1 q2 x : ℕ) → x < q1 → strip q1 q2 x ≡ 0
 unfolding strip
-strip-before q1 q2 x h = rw (le-leb (x + 1) q1 (omega arith))
+strip-before q1 q2 x h = grind (arith, nat_tests)
 
 strip-between : (q1 q2 x : ℕ) → q1 ≤ x → x < q2 → strip q1 q2 x ≡ 1
 unfolding strip
-strip-between q1 q2 x h k = rw (lt-leb (x + 1) q1 (omega arith), le-leb (x + 1) q2 (omega arith))
+strip-between q1 q2 x h k = grind (arith, nat_tests)
 
 strip-after : (q1 q2 x : ℕ) → q1 ≤ x → q2 ≤ x → strip q1 q2 x ≡ 2
 unfolding strip
-strip-after q1 q2 x h k = rw (lt-leb (x + 1) q1 (omega arith), lt-leb (x + 1) q2 (omega arith))
+strip-after q1 q2 x h k = grind (arith, nat_tests)
 
 pub strip-small : (q1 q2 x : ℕ) → strip q1 q2 x < STRIPS
 strip-small q1 q2 x = go (dec_lt x q1) (dec_lt x q2)
