@@ -1,5 +1,6 @@
 // The C interface: exactly what include/finder.h declares, each export with the equation of the call behind it.
 #![tactic(auto)]
+
 ghost use Rattle.std.specs.Prelude.{◌≡◌};
 ghost use Rattle.relations.specs.Query.{admitted_of};
 ghost use Rattle.pages.specs.Rectangles.{rect_of};
