@@ -10,8 +10,7 @@ fn finder() -> Program {
     let path = Path::new(&here).join("../../target/bin/finder");
     assert!(
         path.is_file(),
-        "{} is missing: make it with `rt check finder` at the root of the project first; \
-         where that calls finder unchanged, remove target/ before it",
+        "{} is missing: make it with `tools/build finder` at the root of the project first",
         path.display()
     );
     Program::new(path)

@@ -1,5 +1,5 @@
-//! Every output that a program crate stores is what the model prints. `rt check`
-//! and `rt ci` compare the same files with what the programs print. The files
+//! Every output that a program crate stores is what the model prints. `rt ci`
+//! compares the same files with what the programs print. The files
 //! are made so:
 //!
 //! ```text
