@@ -198,6 +198,7 @@ pub fn bounds_of(page: &[u32], n: usize) -> Rect
 }
 
 // Makes the table empty, whatever words it had.
+#[tactic(auto, unfolding(crate::specs::Calls::empty_call))]
 pub fn empty(table: &mut [u32]) -> u32
     ensures { (result, table.new) ≡ empty_call table.old }
 {

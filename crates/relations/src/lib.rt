@@ -163,6 +163,7 @@ fn ones_of(rows: [u16; CODES]) -> u32
 }
 
 // 0 where the clauses are a query, else 4 or 5.
+#[tactic(auto, unfolding(crate::specs::Query::refusal_of))]
 fn refused(clauses: &[u64]) -> u32
     ensures { result ≡ refusal_of clauses.now }
 {

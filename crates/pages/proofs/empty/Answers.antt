@@ -2,11 +2,8 @@
 use Rattle.std.proofs.Common.{rules}
 use mathlib.Core.Path.{refl}
 use lib.ListN.{length-set}
-use Rattle.pages.proofs.Zeros.{zero_more, empty-refused, empty-done}
+use Rattle.pages.proofs.Zeros.{zero_more, empty-done}
 use Rattle.pages.proofs.empty.Goals as goal
-
-pub returns-then-table-lt-TABLE_WORDS : goal.returns-then-table-lt-TABLE_WORDS
-returns-then-table-lt-TABLE_WORDS c = empty-refused _ c.if-table-lt-TABLE_WORDS.true
 
 pub loop-i-init : goal.loop-i-init
 loop-i-init c = (search rules, refl, refl)

@@ -5,26 +5,23 @@ use native.Mathlib.Omega.{arith}
 use lib.ListN.{length, drop}
 use lib.Seq.{drop-length}
 use Rattle.relations.specs.Query.{some_bad}
-use Rattle.relations.proofs.Answer.{refuse-none, refuse-many, refuse-bad, accept, bad-zero, bad-high, good, bad-here, bad-later}
+use Rattle.relations.proofs.Answer.{refuse-none, refuse-bad, accept, bad-zero, bad-high, good, bad-here, bad-later}
 use Rattle.relations.proofs.refused.Goals as goal
 
 pub returns-then-clauses-eq0 : goal.returns-then-clauses-eq0
 returns-then-clauses-eq0 c = refuse-none _ c.if-clauses-eq0.true
-
-pub returns-then-clauses-gt-CLAUSES : goal.returns-then-clauses-gt-CLAUSES
-returns-then-clauses-gt-CLAUSES c = refuse-many _ c.if-clauses-eq0.false c.if-clauses-gt-CLAUSES.true
 
 pub loop-c-init : goal.loop-c-init
 loop-c-init c = (omega arith, refl)
 
 pub returns-then-clause-eq0 : goal.returns-then-clause-eq0
 returns-then-clause-eq0 c =
-    refuse-bad _ c.if-clauses-eq0.false c.if-clauses-gt-CLAUSES.false
+    refuse-bad _ c.if-clauses-eq0.false (omega arith)
     (bad-here _ _ c.loop-c-test.true c.loop-c.invariant.1 (bad-zero _ c.if-clause-eq0.true))
 
 pub returns-then-clause : goal.returns-then-clause
 returns-then-clause c =
-    refuse-bad _ c.if-clauses-eq0.false c.if-clauses-gt-CLAUSES.false
+    refuse-bad _ c.if-clauses-eq0.false (omega arith)
     (bad-here _ _ c.loop-c-test.true c.loop-c.invariant.1
     (bad-high _ c.if-clause-eq0.false c.if-clause.true))
 
@@ -41,5 +38,5 @@ returns c =
     let at = c in
     let cs = at.args.clauses.now in
     let e : at.loop-c.c ≡ length cs = omega arith in
-    accept cs at.if-clauses-eq0.false at.if-clauses-gt-CLAUSES.false
+    accept cs at.if-clauses-eq0.false (omega arith)
     (sym at.loop-c.invariant.1 ∙ ap (λ (n : ℕ). some_bad (drop n cs)) e ∙ ap some_bad (drop-length cs))
