@@ -126,11 +126,11 @@ module _ (table words answer : List ℕ) where
   unfolding replay_call replayed table_after refusals_after
   replay-tests = refl
 
-  pub replay-short : length table < TABLE_WORDS → (TABLE_TOO_SHORT, table, answer) ≡ replay_call table words answer
-  replay-short l = sym (replay-tests ∙ rw (lt-ltb (length table) TABLE_WORDS l))
+  pub replay_short : length table < TABLE_WORDS → (TABLE_TOO_SHORT, table, answer) ≡ replay_call table words answer
+  replay_short l = sym (replay-tests ∙ rw (lt-ltb (length table) TABLE_WORDS l))
 
-  pub replay-few : TABLE_WORDS ≤ length table → length answer < length words / CALL_WORDS → (ANSWER_TOO_SHORT, table, answer) ≡ replay_call table words answer
-  replay-few l k = sym (replay-tests ∙ rw (le-ltb (length table) TABLE_WORDS l, lt-ltb (length answer) (length (calls_of words)) (omega (arith, length-calls words))))
+  pub replay_few : TABLE_WORDS ≤ length table → length answer < length words / CALL_WORDS → (ANSWER_TOO_SHORT, table, answer) ≡ replay_call table words answer
+  replay_few l k = sym (replay-tests ∙ rw (le-ltb (length table) TABLE_WORDS l, lt-ltb (length answer) (length (calls_of words)) (omega (arith, length-calls words))))
 
   pub replay-done : (first t a : List ℕ) (r i : ℕ) → TABLE_WORDS ≤ length table → length words / CALL_WORDS ≤ length answer
       → (r, first) ≡ empty_call table → i ≡ length words / CALL_WORDS → Progress first words answer i t a → (ACCEPTED, t, a) ≡ replay_call table words answer

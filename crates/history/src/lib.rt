@@ -49,6 +49,7 @@ fn place_marked(table: &mut [u32], marks: &mut [u8], number: u32, rect: Rect) ->
 }
 
 // Empties the table, places each call in turn and writes what it returns. Soundness follows from call to call, so it is never tested.
+#[tactic(auto, using(crate::proofs::Replaying::replay_short, crate::proofs::Replaying::replay_few))]
 pub fn replay(table: &mut [u32], calls: &[u32], refusals: &mut [u32]) -> u32
     ensures { (result, table.new, refusals.new) ≡ replay_call table.old calls.now refusals.old }
 {

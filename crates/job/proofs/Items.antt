@@ -24,7 +24,6 @@ use Rattle.job.specs.Words.{word_at, rect_at, clauses_at, piece_count, piece_sta
 use Rattle.job.specs.Steps.{table_at, piece_line_at, query_line_at, answer_after, put, piece_placed, query_answered}
 use Rattle.job.proofs.Places.{first-start, next_start, ends-before, starts-after}
 use Rattle.job.proofs.Tables.{place_is, query-is, fine-table}
-use Rattle.job.proofs.Writing.{put-none}
 use Rattle.job.proofs.Asking.{same_line}
 
 module _ (b : List ℕ) (good : T (well_formed b)) where
@@ -74,11 +73,22 @@ module _ (b : List ℕ) (i : ℕ) (t : List ℕ) (number : ℕ) (rect : Rect) (t
   placed : (x : ℕ × List ℕ) (out its : List ℕ) → x ≡ put 0 its out → piece_line_at b i ≡ its → (x, t') ≡ piece_placed b i out
   placed x out its e l = rw (e, l, table_is)
 
-  pub piece-accepted : (out : List ℕ) → r ≡ ACCEPTED → ((0, out), t') ≡ piece_placed b i out
-  piece-accepted out e = placed (0, out) out [] (put-none out 0) (line-is ∙ line-tests ∙ rw (eq-eqb r ACCEPTED e))
-
   pub piece-refused : (x : ℕ × List ℕ) (out : List ℕ) → (r ≡ ACCEPTED → ⊥) → x ≡ put 0 (line UNPLACED (i ∷ r ∷ [])) out → (x, t') ≡ piece_placed b i out
   piece-refused x out e l = placed x out (line UNPLACED (i ∷ r ∷ [])) l (line-is ∙ line-tests ∙ rw (ne_eqb r ACCEPTED e))
+
+-- the same of an accepted piece: its line is empty, and the table is what the call leaves
+module _ (b : List ℕ) (i : ℕ) where
+  pub accepted_line : (place_sound (table_at b i) (word_at b (piece_start i)) (rect_at b (piece_start i + 1))).0 ≡ ACCEPTED → piece_line_at b i ≡ []
+  accepted_line e =
+      let t : List ℕ = table_at b i in
+      let call : ℕ × List ℕ = place_sound t (word_at b (piece_start i)) (rect_at b (piece_start i + 1)) in
+      line-is b i t _ _ call.1 call.0 refl refl refl refl ∙ line-tests b i t _ _ call.1 call.0 refl refl refl refl ∙ rw (eq-eqb call.0 ACCEPTED e)
+
+  pub table_next : table_at b (i + 1) ≡ (place_sound (table_at b i) (word_at b (piece_start i)) (rect_at b (piece_start i + 1))).1
+  table_next =
+      let t : List ℕ = table_at b i in
+      let call : ℕ × List ℕ = place_sound t (word_at b (piece_start i)) (rect_at b (piece_start i + 1)) in
+      sym (table_is b i t _ _ call.1 call.0 refl refl refl refl)
 
 -- a query answered, from what the query call returned
 module _ (b : List ℕ) (i at : ℕ) (table answer : List ℕ) (a : Answer) (after : List ℕ)

@@ -95,6 +95,7 @@ fn ends_there(bytes: &[u8], start: usize, queries: usize) -> bool
 }
 
 // Whether the bytes are a well-formed job, and where its sections lie.
+#[tactic(auto, using(crate::proofs::Places::too_long))]
 pub fn shape_of(bytes: &[u8]) -> Shape
     ensures { result ≡ shape_of bytes.now }
 {
@@ -143,6 +144,7 @@ pub fn start(table: &mut [u32])
 }
 
 // Places piece `i`, and writes its line, if it is refused. Gives the line's length.
+#[tactic(auto, using(crate::proofs::Items::accepted_line, crate::proofs::Items::table_next))]
 pub fn place_piece(job: &[u8], i: usize, table: &mut [u32], out: &mut [u8]) -> usize
     requires { T (well_formed job.now) × (i < piece_count job.now) × (table.old ≡ table_at job.now i)
         × (LINE_BYTES ≤ length out.old) }

@@ -51,8 +51,8 @@ answer w n r m e = sound-open w n r ∙ ap (λ k. answered w n r k (eqb k ACCEPT
 pub call-not-valid : (w : List ℕ) (n : ℕ) (r : Rect) → valid r ≡ false → (RECTANGLE_NOT_VALID, w) ≡ place_sound w n r
 call-not-valid w n r e = sym (answer w n r RECTANGLE_NOT_VALID (refusal-open w n r ∙ ap (λ a. first a (leb PIECES n) (eqb (stored (table_in w) n) 0)) e))
 
-pub call-too-large : (w : List ℕ) (n : ℕ) (r : Rect) → valid r ≡ true → PIECES ≤ n → (NUMBER_TOO_LARGE, w) ≡ place_sound w n r
-call-too-large w n r e l = sym (answer w n r NUMBER_TOO_LARGE (refusal-open w n r ∙ rw (e, le-leb PIECES n l)))
+pub call_too_large : (w : List ℕ) (n : ℕ) (r : Rect) → valid r ≡ true → PIECES ≤ n → (NUMBER_TOO_LARGE, w) ≡ place_sound w n r
+call_too_large w n r e l = sym (answer w n r NUMBER_TOO_LARGE (refusal-open w n r ∙ rw (e, le-leb PIECES n l)))
 
 pub call-stands : (w : List ℕ) (n : ℕ) (r : Rect) → valid r ≡ true → n < PIECES → stored (table_in w) n ≢ 0 → (ALREADY_STANDING, w) ≡ place_sound w n r
 call-stands w n r e l s = sym (answer w n r ALREADY_STANDING (refusal-open w n r ∙ rw (e, lt-leb PIECES n l, ne_eqb (stored (table_in w) n) 0 s)))

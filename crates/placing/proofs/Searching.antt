@@ -33,8 +33,8 @@ held-zero w c (suc n) h =
 held-some : (w : List ℕ) (c n i : ℕ) → i < n → (entry_in w i).r ≡ c → 0 < sum (is c) (entries_in w n)
 held-some w c n i l e = omega (arith, sum-entry w (is c) n i l, ap one (eq-eqb (entry_in w i).r c e))
 
-pub ref-at : (w : List ℕ) (c n i : ℕ) → i < n → (entry_in w i).r ≡ c → true ≡ ltb 0 (sum (is c) (entries_in w n))
-ref-at w c n i l e = sym (lt-ltb 0 (sum (is c) (entries_in w n)) (held-some w c n i l e))
+pub ref_at : (w : List ℕ) (c n i : ℕ) → i < n → (entry_in w i).r ≡ c → true ≡ ltb 0 (sum (is c) (entries_in w n))
+ref_at w c n i l e = sym (lt-ltb 0 (sum (is c) (entries_in w n)) (held-some w c n i l e))
 
 pub ref-none : (w : List ℕ) (c n : ℕ) → ((i : ℕ) → i < n → (entry_in w i).r ≡ c → ⊥) → false ≡ ltb 0 (sum (is c) (entries_in w n))
 ref-none w c n h = rw (held-zero w c n h)

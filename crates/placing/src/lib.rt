@@ -211,6 +211,7 @@ pub fn place_new(table: &mut [u32], number: u32, rect: Rect)
 }
 
 // A place call on a sound table.
+#[tactic(auto, using(crate::proofs::Called::call_too_large))]
 pub fn place_sound(table: &mut [u32], number: u32, rect: Rect) -> u32
     requires { (TABLE_WORDS ≤ length table.old) × T (sound table.old) }
     ensures { (result, table.new) ≡ place_sound table.old number rect }

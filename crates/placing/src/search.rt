@@ -10,6 +10,7 @@ use super::words::entry_count;
 use pages::{ENTRY_R, ENTRY_WORDS, FANOUT, LEVEL, PAGE_COUNT, PAGE_HEAD};
 
 // Whether one of the first n entries of a page's words has the r `number`.
+#[tactic(auto, using(crate::proofs::Searching::ref_at))]
 fn has_ref(page: &[u32], n: usize, number: u32) -> bool
     requires { (length page.now ≡ PAGE_WORDS) × (n ≤ FANOUT) }
     ensures { result ≡ ltb 0 (sum (is number) (entries_in page.now n)) }

@@ -84,8 +84,8 @@ module _ (w : List ℕ) (long : TABLE_WORDS ≤ length w) where
     root-level : (page (table_in w) (get_or w 1 0)).level ≡ get_or pg 0 0
     root-level = level-word w long (get_or w 1 0) (omega (arith, pages-word w long)) (omega (arith, pages-word w long)) ∙ ap (λ x. get_or x 0 0) (sym is)
 
-    pub level-refuses : TOP_LEVEL < get_or pg 0 0 → false ≡ sound w
-    level-refuses f = sym (T_false (sound w) (λ s. omega (arith, f, root-level, (sound-in w s).levels (get_or w 1 0) (omega (arith, pages-word w long)))))
+    pub level_refuses : TOP_LEVEL < get_or pg 0 0 → false ≡ sound w
+    level_refuses f = sym (T_false (sound w) (λ s. omega (arith, f, root-level, (sound-in w s).levels (get_or w 1 0) (omega (arith, pages-word w long)))))
 
     pub rooted : get_or pg 0 0 ≤ TOP_LEVEL → Rooted w (get_or w 0 0) (get_or w 1 0) (get_or pg 0 0)
     rooted f = record { long = long; count = sym (pages-word w long); most = most; is = sym (root-word w long); below = below; at = sym root-level; low = f }

@@ -271,6 +271,7 @@ fn is_sound_from(table: &[u32], k: u32, root: u32, level: u32) -> bool
 }
 
 // Whether the first words of the slice are a sound table.
+#[tactic(auto, using(crate::proofs::Decides::level_refuses))]
 fn is_sound(table: &[u32]) -> bool
     requires { TABLE_WORDS ≤ length table.now }
     ensures { result ≡ sound table.now }

@@ -4,7 +4,7 @@ use mathlib.Core.Path.{sym, ap, ◌∙◌, subst}
 use lib.ListN.{length-set}
 use lib.Dec.{T}
 use Rattle.pages.specs.Refusals.{ACCEPTED}
-use Rattle.placing.proofs.Called.{call-not-valid, call-too-large, call-stands, call-done}
+use Rattle.placing.proofs.Called.{call-not-valid, call_too_large, call-stands, call-done}
 use Rattle.history.proofs.Marking.{marked-placed}
 use Rattle.history.proofs.place_marked.Goals as goal
 
@@ -13,7 +13,7 @@ returns-then-not-is_valid c = (call-not-valid _ _ _ (sym c.is_valid.ensures ∙ 
 
 pub returns-then-number-ge-PIECES : goal.returns-then-number-ge-PIECES
 returns-then-number-ge-PIECES c = (
-  call-too-large _ _ _ (sym c.is_valid.ensures ∙ c.if-not-is_valid.false) c.if-number-ge-PIECES.true,
+  call_too_large _ _ _ (sym c.is_valid.ensures ∙ c.if-not-is_valid.false) c.if-number-ge-PIECES.true,
   c.requires.3,
 )
 

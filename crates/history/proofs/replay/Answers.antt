@@ -1,21 +1,16 @@
 -- `Progress` says what i calls leave, and `Marked` which numbers stand then: what `place_marked` requires.
 use Rattle.std.proofs.Common.{rules}
 use mathlib.Core.Path.{refl}
+use native.Mathlib.Omega.{arith}
 use lib.ListN.{length-set}
 use Rattle.history.proofs.Reached.{reached-emptied}
 use Rattle.history.proofs.Marking.{marked-none}
-use Rattle.history.proofs.Replaying.{progress-none, progress-reached, progress-more, replay-short, replay-few, replay-done}
+use Rattle.history.proofs.Replaying.{progress-none, progress-reached, progress-more, replay-done}
 use Rattle.history.proofs.replay.Goals as goal
-
-pub returns-then-table-lt-TABLE_WORDS : goal.returns-then-table-lt-TABLE_WORDS
-returns-then-table-lt-TABLE_WORDS c = replay-short _ _ _ c.if-table-lt-TABLE_WORDS.true
-
-pub returns-then-refusals-count : goal.returns-then-refusals-count
-returns-then-refusals-count c = replay-few _ _ _ (search rules) c.if-refusals-count.true
 
 pub loop-i-init : goal.loop-i-init
 loop-i-init c =
-    let start = reached-emptied _ _ _ c.if-table-lt-TABLE_WORDS.false c.empty.ensures in
+    let start = reached-emptied _ _ _ (omega arith) c.empty.ensures in
     (search rules, refl, refl, progress-none _ _ _ start, search rules, marked-none _ start)
 
 pub place_marked-requires : goal.place_marked-requires

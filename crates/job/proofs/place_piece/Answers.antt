@@ -1,7 +1,7 @@
 -- The piece's words lie within the job, and the table before it is sound; the line follows from the refusal.
 use native.Mathlib.Omega.{arith}
 use Rattle.job.proofs.Tables.{fine_of}
-use Rattle.job.proofs.Items.{short, piece-room, piece-accepted, piece-refused}
+use Rattle.job.proofs.Items.{short, piece-room, piece-refused}
 use Rattle.job.proofs.place_piece.Goals as goal
 
 pub overflow_mul-at : goal.overflow_mul-at
@@ -23,14 +23,6 @@ pub place_sound-refusal-requires : goal.place_sound-refusal-requires
 place_sound-refusal-requires c = let at = c in
     let F = fine_of at.args.table.now at.args.job.now at.args.i at.requires.2 in (omega (arith, F.size), F.sound)
 
-pub returns-then-refusal-eq-ACCEPTED : goal.returns-then-refusal-eq-ACCEPTED
-returns-then-refusal-eq-ACCEPTED c = let at = c in let call = c.place_sound-refusal in
-    let number = c.word_at-number in let rect = c.rect_at-rect in record {
-      most = omega arith;
-      placed = piece-accepted at.args.job.now at.args.i at.args.table.now number.result rect.result call.new.table call.result
-          at.requires.2 number.ensures rect.ensures call.ensures at.args.out.now c.if-refusal-eq-ACCEPTED.true;
-    }
-
 pub overflow_cast-i : goal.overflow_cast-i
 overflow_cast-i c = let at = c in
     omega (arith, short at.args.job.now at.requires.0, piece-room at.args.job.now at.requires.0 at.args.i at.requires.1)
@@ -41,5 +33,5 @@ returns c = let at = c in
     let rect = c.rect_at-rect in let call = c.place_sound-refusal in record {
       most = omega arith;
       placed = piece-refused at.args.job.now at.args.i at.args.table.now number.result rect.result call.new.table call.result
-          at.requires.2 number.ensures rect.ensures call.ensures _ at.args.out.now c.if-refusal-eq-ACCEPTED.false c.refused_line.ensures.bytes;
+          at.requires.2 number.ensures rect.ensures call.ensures _ at.args.out.now (omega arith) c.refused_line.ensures.bytes;
     }
