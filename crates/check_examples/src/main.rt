@@ -3,9 +3,11 @@
 // of words change. For each run a line follows: its first index, its size and its words. A table starts as the one before it ended,
 // the first from zeros.
 #![tactic(auto)]
-ghost use Rattle.std.specs.Prelude.{◌≤◌};
 
-use libc::STDOUT_FILENO;
+ghost use Rattle.std.specs.Prelude.{◌≤◌, length, IfOk};
+
+use std::io;
+use std::io::Read;
 
 // Room for words after the table.
 const ROOM: usize = 14_400;
@@ -54,19 +56,19 @@ fn number_at(text: &[u8], from: usize) -> Number {
 }
 
 // Prints the bytes up to a space, which starts the next field.
-fn print_name(text: &[u8], from: usize) -> usize {
+fn print_name(rt: &impl Print, text: &[u8], from: usize) -> io::Result<usize> {
     for at in from..text.len() {
         if text[at] == SPACE {
-            io::write_all(STDOUT_FILENO, &text[from..at]);
-            return at + 1;
+            rt.write_all(&text[from..at])?;
+            return Ok(at + 1);
         }
     }
-    text.len()
+    Ok(text.len())
 }
 
-fn print_number(n: u32) {
-    io::write_all(STDOUT_FILENO, b" ");
-    io::print_decimal(STDOUT_FILENO, n as u64);
+fn print_number(rt: &impl Print, n: u32) -> io::Result<()> {
+    rt.write_all(b" ")?;
+    rt.print(n)
 }
 
 fn store(words: &mut [u32], i: usize, value: u32) {
@@ -96,35 +98,51 @@ fn change(words: &mut [u32], text: &[u8], runs: u32, from: usize) -> usize {
     at
 }
 
-fn print_check(words: &[u32], length: usize) {
+fn print_check(rt: &impl Print, words: &[u32], length: usize) -> io::Result<()> {
     if length <= words.len() {
         let answer = soundness::check(&words[..length]);
-        print_number(answer.refusal);
-        print_number(answer.pieces);
+        print_number(rt, answer.refusal)?;
+        print_number(rt, answer.pieces)?;
     }
-    io::write_all(STDOUT_FILENO, b"\n");
+    rt.write_all(b"\n")
 }
 
-fn print_table(words: &mut [u32], text: &[u8], from: usize) -> usize {
-    let named = print_name(text, from);
+fn print_table(rt: &impl Print, words: &mut [u32], text: &[u8], from: usize) -> io::Result<usize> {
+    let named = print_name(rt, text, from)?;
     let length = number_at(text, named);
     let runs = number_at(text, length.next);
     let next = change(words, text, runs.value, runs.next);
-    print_check(words, length.value as usize);
-    next
+    print_check(rt, words, length.value as usize)?;
+    Ok(next)
 }
 
-fn print_tables(words: &mut [u32], text: &[u8]) {
+fn print_tables(rt: &impl Print, words: &mut [u32], text: &[u8]) -> io::Result<()> {
     let count = number_at(text, 0);
     let mut at: usize = count.next;
     for i in 0..count.value {
-        at = print_table(words, text, at);
+        at = print_table(rt, words, text, at)?;
     }
+    Ok(())
 }
 
-fn main() {
+// Reads until `text` is full or the input ends, and gives how many bytes were read.
+fn read_full<R: Read>(from: &mut R, text: &mut [u8]) -> io::Result<usize>
+    ensures { IfOk result (λ n. n ≤ length text.new) }
+{
+    let mut n: usize = 0;
+    while n < text.len() {
+        let more = from.read(&mut text[n..])?;
+        if more == 0 {
+            return Ok(n);
+        }
+        n += more;
+    }
+    Ok(n)
+}
+
+fn main(rt: HostRuntime) -> io::Result<()> {
     let mut words = [0u32; ROOM];
     let mut text = [0u8; TEXT];
-    let n = io::read_full(0, &mut text);
-    print_tables(&mut words, &text[..n]);
+    let n = read_full(&mut rt.reader(), &mut text)?;
+    print_tables(&rt, &mut words, &text[..n])
 }

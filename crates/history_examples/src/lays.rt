@@ -9,7 +9,7 @@ use printing::{WORD_VALUES, store, word};
 // The last of 1,024.
 const LAST: u32 = pages::PIECES - 1;
 
-#[derive(Drop)]
+#[derive(Clone, Copy)]
 pub enum Lay {
     Rising,
     Falling,
@@ -24,7 +24,7 @@ pub enum Lay {
 }
 
 // A place call, and the generator's state after it.
-#[derive(Drop)]
+#[derive(Clone, Copy)]
 struct Call {
     number: u32,
     rect: Rect,

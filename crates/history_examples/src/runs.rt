@@ -5,6 +5,7 @@ use crate::lays::{Lay, below, rest, sized, step, write};
 use history::CALL_WORDS;
 use pages::Rect;
 use printing::{WORD_VALUES, ask, checksum, long_number, number, print_head, store, text, word};
+use std::io;
 
 const QUESTIONS: u32 = 10;
 
@@ -89,16 +90,31 @@ fn second_clause(q: u32, u: u64) -> u64 {
     }
 }
 
-fn ask_clauses(table: &[u32], reference: Rect, first: u64, second: u64, answer: &mut [u16]) {
+fn ask_clauses(
+    rt: &impl Print,
+    table: &[u32],
+    reference: Rect,
+    first: u64,
+    second: u64,
+    answer: &mut [u16],
+) -> io::Result<()> {
     if second == 0 {
-        ask(table, reference, &[first], answer);
+        ask(rt, table, reference, &[first], answer)?;
     } else {
-        ask(table, reference, &[first, second], answer);
+        ask(rt, table, reference, &[first, second], answer)?;
     }
+    Ok(())
 }
 
 // Question q from the generator's state x; the state after it.
-fn question(table: &[u32], unit: u32, q: u32, x: u32, answer: &mut [u16]) -> u32 {
+fn question(
+    rt: &impl Print,
+    table: &[u32],
+    unit: u32,
+    q: u32,
+    x: u32,
+    answer: &mut [u16],
+) -> io::Result<u32> {
     let a = step(x);
     let b = step(a);
     let c = step(b);
@@ -114,31 +130,50 @@ fn question(table: &[u32], unit: u32, q: u32, x: u32, answer: &mut [u16]) -> u32
     );
     let first = first_clause(q, relation(e), relation(f), relation(g));
     let second = second_clause(q, relation(f));
-    ask_clauses(table, reference(table, q, drawn), first, second, answer);
-    g
+    ask_clauses(rt, table, reference(table, q, drawn), first, second, answer)?;
+    Ok(g)
 }
 
-fn questions(name: &[u8], table: &[u32], unit: u32, answer: &mut [u16]) {
+fn questions(
+    rt: &impl Print,
+    name: &[u8],
+    table: &[u32],
+    unit: u32,
+    answer: &mut [u16],
+) -> io::Result<()> {
     let mut state: u32 = 5;
     for q in 0..QUESTIONS {
-        text(name);
-        state = question(table, unit, q, state, answer);
+        text(rt, name)?;
+        state = question(rt, table, unit, q, state, answer)?;
     }
+    Ok(())
 }
 
 // The table after the first calls, by `replay`.
-fn stop(calls: &[u32], count: u32, table: &mut [u32], returned: &mut [u32]) {
+fn stop(
+    rt: &impl Print,
+    calls: &[u32],
+    count: u32,
+    table: &mut [u32],
+    returned: &mut [u32],
+) -> io::Result<()> {
     history::replay(table, front(calls, CALL_WORDS * (count as usize)), returned);
-    text(b"after");
-    number(count);
-    checksum(table);
-    text(b"\n");
+    text(rt, b"after")?;
+    number(rt, count)?;
+    checksum(rt, table)?;
+    text(rt, b"\n")
 }
 
-fn stops(calls: &[u32], table: &mut [u32], returned: &mut [u32]) {
+fn stops(
+    rt: &impl Print,
+    calls: &[u32],
+    table: &mut [u32],
+    returned: &mut [u32],
+) -> io::Result<()> {
     for i in 0..STOPS.len() {
-        stop(calls, STOPS[i], table, returned);
+        stop(rt, calls, STOPS[i], table, returned)?;
     }
+    Ok(())
 }
 
 fn place_at(calls: &[u32], i: u32, table: &mut [u32]) -> u32 {
@@ -158,47 +193,61 @@ fn one_if(b: bool) -> usize
     if b { 1 } else { 0 }
 }
 
-fn print_count(list: &[u32], value: u32) {
+fn print_count(rt: &impl Print, list: &[u32], value: u32) -> io::Result<()> {
     let mut n: usize = 0;
     for i in 0..list.len() {
         n += one_if(list[i] == value);
     }
-    long_number(n as u64);
+    long_number(rt, n as u64)
 }
 
 // The sum of what the calls returned, and how often that was 0, 2, 3 and 7.
-fn print_refusals(returned: &[u32]) {
-    text(b"refusals");
-    checksum(returned);
-    print_count(returned, pages::ACCEPTED);
-    print_count(returned, pages::RECTANGLE_NOT_VALID);
-    print_count(returned, pages::NUMBER_TOO_LARGE);
-    print_count(returned, pages::ALREADY_STANDING);
-    text(b"\n");
+fn print_refusals(rt: &impl Print, returned: &[u32]) -> io::Result<()> {
+    text(rt, b"refusals")?;
+    checksum(rt, returned)?;
+    print_count(rt, returned, pages::ACCEPTED)?;
+    print_count(rt, returned, pages::RECTANGLE_NOT_VALID)?;
+    print_count(rt, returned, pages::NUMBER_TOO_LARGE)?;
+    print_count(rt, returned, pages::ALREADY_STANDING)?;
+    text(rt, b"\n")
 }
 
 // Some stops, then the calls one after the other.
-fn place_run(calls: &[u32], count: u32, table: &mut [u32], returned: &mut [u32]) {
-    stops(calls, table, returned);
+fn place_run(
+    rt: &impl Print,
+    calls: &[u32],
+    count: u32,
+    table: &mut [u32],
+    returned: &mut [u32],
+) -> io::Result<()> {
+    stops(rt, calls, table, returned)?;
     pages::empty(table);
     place_all(calls, count, table, returned);
-    print_refusals(front(returned, count as usize));
-    text(b"end");
-    print_head(table);
+    print_refusals(rt, front(returned, count as usize))?;
+    text(rt, b"end")?;
+    print_head(rt, table)
 }
 
 // The calls of a lay from the generator's state x, and queries at their end.
-pub fn run(name: &[u8], lay: Lay, count: u32, x: u32, unit: u32, answer: &mut [u16])
+pub fn run(
+    rt: &impl Print,
+    name: &[u8],
+    lay: Lay,
+    count: u32,
+    x: u32,
+    unit: u32,
+    answer: &mut [u16],
+) -> io::Result<()>
     requires { count ≤ 3000 }
 {
     let mut table = [0u32; pages::TABLE_WORDS];
     let mut calls = [0u32; MOST_WORDS];
     let mut returned = [0u32; MOST_CALLS];
     write(lay, count, x, &mut calls);
-    text(b"run ");
-    text(name);
-    number(count);
-    text(b"\n");
-    place_run(&calls, count, &mut table, &mut returned);
-    questions(name, &table, unit, answer);
+    text(rt, b"run ")?;
+    text(rt, name)?;
+    number(rt, count)?;
+    text(rt, b"\n")?;
+    place_run(rt, &calls, count, &mut table, &mut returned)?;
+    questions(rt, name, &table, unit, answer)
 }

@@ -1,6 +1,7 @@
-// Running a job: its bytes read from one descriptor, its output written to another.
+// Running a job: its bytes read from a reader, its output written to a writer.
 #![tactic(auto)]
-ghost use Rattle.std.specs.Prelude.{◌≡◌, true, ◌+◌, ◌≤◌, length, take, T};
+
+ghost use Rattle.std.specs.Prelude.{◌≡◌, ◌+◌, ◌≤◌, length, take, T, IfOk};
 ghost use Rattle.pages.specs.Sizes.{TABLE_WORDS, PIECES};
 ghost use Rattle.pages.specs.Calls.{empty_words};
 ghost use Rattle.job.specs.Sizes.{LINE_BYTES};
@@ -10,6 +11,8 @@ ghost use Rattle.job_io.specs.Gathered.{kept, held_pieces, held_queries, held_at
 
 use job::{JOB_BYTES, LINE_BYTES};
 use pages::{PIECES, TABLE_WORDS};
+use std::io;
+use std::io::{Read, Write};
 
 // Lines are gathered here, so that a write has many of them. The pieces of a job print 28,374 bytes at the most: a buffer of less is
 // written between their lines as well as between those of the queries, in jobs that can be given, and runs can show both.
@@ -19,26 +22,18 @@ const READ_BYTES: usize = JOB_BYTES + 1;
 
 const ANSWER_WORDS: usize = PIECES as usize;
 
-// How many bytes of the buffer are used, unless a write failed.
-#[derive(Drop)]
-pub struct Written {
-    pub good: bool,
-    pub used: usize,
-}
-
 // One read. A failed one counts as one that fills the slice, so that the job is too long.
-fn read_some(from: i32, rest: &mut [u8]) -> usize
+fn read_some<R: Read>(from: &mut R, rest: &mut [u8]) -> usize
     ensures { result ≤ length rest.new }
 {
-    let got = libc::read(from, rest);
-    if got < 0 {
-        return rest.len();
+    match from.read(rest) {
+        Ok(n) => n,
+        Err(_) => rest.len(),
     }
-    io::count(got, rest)
 }
 
 // How many bytes there are up to the end of the input, or as many as `bytes` has.
-fn read_all(from: i32, bytes: &mut [u8]) -> usize
+fn read_all<R: Read>(from: &mut R, bytes: &mut [u8]) -> usize
     ensures { result ≤ length bytes.new }
 {
     let mut n: usize = 0;
@@ -53,47 +48,49 @@ fn read_all(from: i32, bytes: &mut [u8]) -> usize
 }
 
 // Writes what is gathered. Nothing else here writes.
-fn flush(to: i32, out: &[u8], used: usize) -> bool
+fn flush<W: Write>(to: &mut W, out: &[u8], used: usize) -> io::Result<()>
     requires { used ≤ length out.now }
 {
-    io::write_all(to, &out[..used])
+    to.write_all(&out[..used])
 }
 
-// Writes what is gathered where the next line might not fit behind it.
-fn make_room(to: i32, out: &[u8], used: usize) -> Written
+// Writes what is gathered where the next line might not fit behind it, and gives how many bytes of the buffer are used then, as each
+// function below does, unless a write failed.
+fn make_room<W: Write>(to: &mut W, out: &[u8], used: usize) -> io::Result<usize>
     requires { (used ≤ length out.now) × (LINE_BYTES ≤ length out.now) }
-    ensures room { result.used + LINE_BYTES ≤ length out.now }
-    ensures front { take result.used out.now ≡ kept (length out.now) (take used out.now) }
+    ensures room { IfOk result (λ n. n + LINE_BYTES ≤ length out.now) }
+    ensures front { IfOk result (λ n. take n out.now ≡ kept (length out.now) (take used out.now)) }
 {
     if used <= out.len() - LINE_BYTES {
-        return Written { good: true, used };
+        return Ok(used);
     }
-    let good = flush(to, out, used);
-    Written { good, used: 0 }
+    flush(to, out, used)?;
+    Ok(0)
 }
 
-fn place_pieces(to: i32, bytes: &[u8], pieces: usize, table: &mut [u32], out: &mut [u8]) -> Written
+fn place_pieces<W: Write>(
+    to: &mut W,
+    bytes: &[u8],
+    pieces: usize,
+    table: &mut [u32],
+    out: &mut [u8],
+) -> io::Result<usize>
     requires { T (well_formed bytes.now) × (pieces ≡ piece_count bytes.now) × (table.old ≡ empty_words)
         × (LINE_BYTES ≤ length out.old) }
-    ensures within { result.used ≤ length out.old }
-    ensures placed { result.good ≡ true
-        → (table.new ≡ table_at bytes.now (piece_count bytes.now))
-        × (take result.used out.new ≡ held_pieces (length out.old) bytes.now) }
+    ensures within { IfOk result (λ used. used ≤ length out.old) }
+    ensures placed { IfOk result (λ used. (table.new ≡ table_at bytes.now (piece_count bytes.now))
+        × (take used out.new ≡ held_pieces (length out.old) bytes.now)) }
 {
     let mut used: usize = 0;
     for i in 0..pieces {
-        let room = make_room(to, out, used);
-        if !room.good {
-            return room;
-        }
-        used = room.used;
+        used = make_room(to, out, used)?;
         used += job::place_piece(bytes, i, table, &mut out[used..]);
     }
-    Written { good: true, used }
+    Ok(used)
 }
 
-fn answer_queries(
-    to: i32,
+fn answer_queries<W: Write>(
+    to: &mut W,
     bytes: &[u8],
     queries: usize,
     start: usize,
@@ -101,54 +98,43 @@ fn answer_queries(
     answer: &mut [u16],
     out: &mut [u8],
     gathered: usize,
-) -> Written
+) -> io::Result<usize>
     requires { T (well_formed bytes.now) × (queries ≡ query_count bytes.now) × (start ≡ query_start bytes.now 0)
         × (table.now ≡ table_at bytes.now (piece_count bytes.now)) × (length answer.old ≡ PIECES) × (LINE_BYTES ≤ length out.old)
         × (gathered ≤ length out.old) × (take gathered out.old ≡ held_pieces (length out.old) bytes.now) }
-    ensures within { result.used ≤ length out.old }
-    ensures answered { result.good ≡ true → take result.used out.new ≡ held_queries (length out.old) bytes.now }
+    ensures within { IfOk result (λ used. used ≤ length out.old) }
+    ensures answered { IfOk result (λ used. take used out.new ≡ held_queries (length out.old) bytes.now) }
 {
     let mut used = gathered;
     let mut at = start;
     for i in 0..queries {
-        let room = make_room(to, out, used);
-        if !room.good {
-            return room;
-        }
-        used = room.used;
+        used = make_room(to, out, used)?;
         let line = job::answer_query(bytes, i, at, table, answer, &mut out[used..]);
         used += line.length;
         at = line.next;
     }
-    Written { good: true, used }
+    Ok(used)
 }
 
 // Puts the lines of a job in the buffer, one behind the other. What it holds at the end is still to be written.
-fn answer_job(
-    to: i32,
+fn answer_job<W: Write>(
+    to: &mut W,
     bytes: &[u8],
     table: &mut [u32],
     answer: &mut [u16],
     out: &mut [u8],
-) -> Written
+) -> io::Result<usize>
     requires { (length table.old ≡ TABLE_WORDS) × (length answer.old ≡ PIECES) × (LINE_BYTES ≤ length out.old) }
-    ensures within { result.used ≤ length out.old }
-    ensures gathered { result.good ≡ true
-        → (take result.used out.new ≡ held_at_end (length out.old) bytes.now)
-        × Gathered (output bytes.now) (take result.used out.new) }
+    ensures within { IfOk result (λ used. used ≤ length out.old) }
+    ensures gathered { IfOk result (λ used. (take used out.new ≡ held_at_end (length out.old) bytes.now)
+        × Gathered (output bytes.now) (take used out.new)) }
 {
     let shape = job::shape_of(bytes);
     if !shape.good {
-        return Written {
-            good: true,
-            used: job::bad_job(out),
-        };
+        return Ok(job::bad_job(out));
     }
     job::start(table);
-    let placed = place_pieces(to, bytes, shape.pieces, table, out);
-    if !placed.good {
-        return placed;
-    }
+    let placed = place_pieces(to, bytes, shape.pieces, table, out)?;
     answer_queries(
         to,
         bytes,
@@ -157,19 +143,17 @@ fn answer_job(
         table,
         answer,
         out,
-        placed.used,
+        placed,
     )
 }
 
-// Reads a job from one descriptor to its end, and writes what it prints to another.
-pub fn run(from: i32, to: i32) {
+// Reads a job to its end, and writes what it prints.
+pub fn run<R: Read, W: Write>(from: &mut R, to: &mut W) -> io::Result<()> {
     let mut bytes = [0u8; READ_BYTES];
     let mut table = [0u32; TABLE_WORDS];
     let mut answer = [0u16; ANSWER_WORDS];
     let mut out = [0u8; BUFFER_BYTES];
     let n = read_all(from, &mut bytes);
-    let written = answer_job(to, &bytes[..n], &mut table, &mut answer, &mut out);
-    if written.good {
-        flush(to, &out, written.used);
-    }
+    let used = answer_job(to, &bytes[..n], &mut table, &mut answer, &mut out)?;
+    flush(to, &out, used)
 }

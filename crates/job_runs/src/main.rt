@@ -1,28 +1,42 @@
 // Stored jobs, named by the arguments, run one after the other by the code of the job program.
 #![tactic(auto)]
-use libc::STDOUT_FILENO;
 
-fn run_file(path: &[u8]) {
-    io::write_all(STDOUT_FILENO, path);
-    io::write_all(STDOUT_FILENO, b"\n");
-    let from = os::open_read(path);
-    if from < 0 {
-        os::fail(path);
-        return;
+use std::env::{Env, FillError};
+use std::fs::File;
+use std::io;
+use std::rt::Files;
+
+// No path is longer.
+const PATH_BYTES: usize = 4_096;
+
+// A path that is no text is not opened.
+fn run_file<R: Files + Print + Eprint>(rt: &R, path: &[u8]) -> io::Result<()> {
+    rt.write_all(path)?;
+    rt.write_all(b"\n")?;
+    let name = str::from_utf8(path).unwrap_or("");
+    match File::open(rt, name) {
+        Ok(mut from) => job_io::run(&mut from, &mut io::writer(rt)),
+        Err(e) => eprintln!(rt; "{name}: {e}"),
     }
-    job_io::run(from, STDOUT_FILENO);
-    libc::close(from);
 }
 
-fn run_argument(i: usize) {
-    let mut path = io::buffer();
-    let length = os::arg(i, &mut path);
-    run_file(&path[..length]);
+// Whether there is an argument `i`, which is run then. One that is longer than a path counts as empty.
+fn run_argument<R: Env + Files + Print + Eprint>(rt: &R, i: usize) -> io::Result<bool> {
+    let mut path = [0u8; PATH_BYTES];
+    let length = match rt.arg(i, &mut path) {
+        Ok(n) => n,
+        Err(FillError::TooLong) => 0,
+        Err(FillError::NotPresent) => return Ok(false),
+    };
+    run_file(rt, &path[..length])?;
+    Ok(true)
 }
 
-fn main() {
-    let count = os::arg_count();
-    for i in 1..count {
-        run_argument(i);
+fn main(rt: HostRuntime) -> io::Result<()> {
+    for i in 1..usize::MAX {
+        if !run_argument(&rt, i)? {
+            break;
+        }
     }
+    Ok(())
 }

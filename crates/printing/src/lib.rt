@@ -1,10 +1,11 @@
 // What the example programs print: numbers, sums of words, the answer of a query. A read or a store past the end is harmless here, so
 // that the programs need no bounds.
 #![tactic(auto)]
+
 ghost use Rattle.std.specs.Prelude.{◌≡◌, ◌≤◌, get_or, set};
 
-use libc::STDOUT_FILENO;
 use pages::Rect;
+use std::io;
 
 // How many values a word has.
 pub const WORD_VALUES: u64 = 4_294_967_296;
@@ -12,25 +13,25 @@ pub const WORD_VALUES: u64 = 4_294_967_296;
 // How many numbers of a listing are printed; the checksum has them all.
 const SHOWN: u32 = 24;
 
-pub fn text(t: &[u8]) {
-    io::write_all(STDOUT_FILENO, t);
+pub fn text(rt: &impl Print, t: &[u8]) -> io::Result<()> {
+    rt.write_all(t)
 }
 
-pub fn number(n: u32) {
-    text(b" ");
-    io::print_decimal(STDOUT_FILENO, n as u64);
+pub fn number(rt: &impl Print, n: u32) -> io::Result<()> {
+    text(rt, b" ")?;
+    rt.print(n)
 }
 
-pub fn long_number(n: u64) {
-    text(b" ");
-    io::print_decimal(STDOUT_FILENO, n);
+pub fn long_number(rt: &impl Print, n: u64) -> io::Result<()> {
+    text(rt, b" ")?;
+    rt.print(n)
 }
 
-pub fn edges(r: Rect) {
-    number(r.x1);
-    number(r.y1);
-    number(r.x2);
-    number(r.y2);
+pub fn edges(rt: &impl Print, r: Rect) -> io::Result<()> {
+    number(rt, r.x1)?;
+    number(rt, r.y1)?;
+    number(rt, r.x2)?;
+    number(rt, r.y2)
 }
 
 // A store past the end does nothing.
@@ -50,28 +51,31 @@ pub fn word(list: &[u32], i: usize) -> u32
 }
 
 // The words from `from` on.
-pub fn range(list: &[u32], from: usize, count: usize)
+pub fn range(rt: &impl Print, list: &[u32], from: usize, count: usize) -> io::Result<()>
     requires { (from ≤ 15000) × (count ≤ 15000) }
 {
     for i in 0..count {
-        number(word(list, from + i));
+        number(rt, word(list, from + i))?;
     }
+    Ok(())
 }
 
 fn to_word(n: u16) -> u32 {
     n as u32
 }
 
-fn short_words(list: &[u16]) {
+fn short_words(rt: &impl Print, list: &[u16]) -> io::Result<()> {
     for i in 0..list.len() {
-        number(to_word(list[i]));
+        number(rt, to_word(list[i]))?;
     }
+    Ok(())
 }
 
-fn long_words(list: &[u64]) {
+fn long_words(rt: &impl Print, list: &[u64]) -> io::Result<()> {
     for i in 0..list.len() {
-        long_number(list[i]);
+        long_number(rt, list[i])?;
     }
+    Ok(())
 }
 
 // (31 sum + word) mod 2^32
@@ -79,27 +83,27 @@ fn added(sum: u32, word: u32) -> u32 {
     (((sum as u64) * 31 + (word as u64)) % WORD_VALUES) as u32
 }
 
-pub fn checksum(list: &[u32]) {
+pub fn checksum(rt: &impl Print, list: &[u32]) -> io::Result<()> {
     let mut sum: u32 = 0;
     for i in 0..list.len() {
         sum = added(sum, list[i]);
     }
-    number(sum);
+    number(rt, sum)
 }
 
-fn short_checksum(list: &[u16]) {
+fn short_checksum(rt: &impl Print, list: &[u16]) -> io::Result<()> {
     let mut sum: u32 = 0;
     for i in 0..list.len() {
         sum = added(sum, to_word(list[i]));
     }
-    number(sum);
+    number(rt, sum)
 }
 
 // The words before the pages, and the sum of all.
-pub fn print_head(table: &[u32]) {
-    range(table, 0, pages::TABLE_HEAD);
-    checksum(table);
-    text(b"\n");
+pub fn print_head(rt: &impl Print, table: &[u32]) -> io::Result<()> {
+    range(rt, table, 0, pages::TABLE_HEAD)?;
+    checksum(rt, table)?;
+    text(rt, b"\n")
 }
 
 fn least(a: u32, b: u32) -> u32 {
@@ -107,17 +111,23 @@ fn least(a: u32, b: u32) -> u32 {
 }
 
 // The reference and the clauses, what the query returns, the sum of the answer slice, and the first numbers of the listing.
-pub fn ask(table: &[u32], reference: Rect, clauses: &[u64], answer: &mut [u16]) {
+pub fn ask(
+    rt: &impl Print,
+    table: &[u32],
+    reference: Rect,
+    clauses: &[u64],
+    answer: &mut [u16],
+) -> io::Result<()> {
     let a = query::query(table, reference, clauses, answer);
-    edges(reference);
-    long_number(clauses.len() as u64);
-    long_words(clauses);
-    text(b" |");
-    number(a.refusal);
-    number(a.hits);
-    number(a.opened);
-    short_checksum(answer);
-    text(b" |");
-    short_words(query::front(answer, least(a.hits, SHOWN) as usize));
-    text(b"\n");
+    edges(rt, reference)?;
+    long_number(rt, clauses.len() as u64)?;
+    long_words(rt, clauses)?;
+    text(rt, b" |")?;
+    number(rt, a.refusal)?;
+    number(rt, a.hits)?;
+    number(rt, a.opened)?;
+    short_checksum(rt, answer)?;
+    text(rt, b" |")?;
+    short_words(rt, query::front(answer, least(a.hits, SHOWN) as usize))?;
+    text(rt, b"\n")
 }

@@ -1,16 +1,17 @@
 // Runs the query calls on three tables and prints what they answer: the nine pieces of document 01, a table that place calls
 // never make (three levels, pages in another order, other fills), and the empty one.
 #![tactic(auto)]
+
 ghost use Rattle.std.specs.Prelude.{◌≤◌};
 
 mod queries;
 mod tables;
 
-use libc::STDOUT_FILENO;
 use pages::Rect;
 use queries::{
     NINE_QUERIES, QUERY_HEAD, QUERY_WORDS, REFUSED_QUERIES, SOME_QUERIES, THREE_LEVELS_QUERIES,
 };
+use std::io;
 use tables::{NINE_PIECES, THREE_LEVELS};
 
 const ANSWER_WORDS: usize = pages::PIECES as usize;
@@ -21,17 +22,17 @@ const SHORT: usize = pages::TABLE_WORDS - 1;
 // What the answer slice holds before each call.
 const BLANK: u16 = 7;
 
-fn text(t: &[u8]) {
-    io::write_all(STDOUT_FILENO, t);
+fn text(rt: &impl Print, t: &[u8]) -> io::Result<()> {
+    rt.write_all(t)
 }
 
-fn number(n: u64) {
-    text(b" ");
-    io::print_decimal(STDOUT_FILENO, n);
+fn number(rt: &impl Print, n: u64) -> io::Result<()> {
+    text(rt, b" ")?;
+    rt.print(n)
 }
 
-fn short(n: u16) {
-    number(n as u64);
+fn short(rt: &impl Print, n: u16) -> io::Result<()> {
+    number(rt, n as u64)
 }
 
 fn word(list: &[u32], i: usize) -> u32 {
@@ -70,20 +71,21 @@ fn plus(a: u64, b: u16) -> u64 {
     }
 }
 
-fn print_sum(answer: &[u16]) {
+fn print_sum(rt: &impl Print, answer: &[u16]) -> io::Result<()> {
     let mut sum: u64 = 0;
     for i in 0..answer.len() {
         sum = plus(sum, answer[i]);
     }
-    text(b" |");
-    number(sum);
+    text(rt, b" |")?;
+    number(rt, sum)
 }
 
-fn print_words(list: &[u16]) {
-    text(b" |");
+fn print_words(rt: &impl Print, list: &[u16]) -> io::Result<()> {
+    text(rt, b" |")?;
     for i in 0..list.len() {
-        short(list[i]);
+        short(rt, list[i])?;
     }
+    Ok(())
 }
 
 fn holds(list: &[u16], p: u16) -> bool {
@@ -96,26 +98,27 @@ fn holds(list: &[u16], p: u16) -> bool {
 }
 
 // Their order is free, so they are printed rising.
-fn print_pages(list: &[u16]) {
-    text(b" |");
+fn print_pages(rt: &impl Print, list: &[u16]) -> io::Result<()> {
+    text(rt, b" |")?;
     for p in 0..pages::PAGES {
         if holds(list, p as u16) {
-            number(p as u64);
+            number(rt, p as u64)?;
         }
     }
+    Ok(())
 }
 
-fn print_query(name: &[u8], reference: Rect, clauses: &[u64]) {
-    text(name);
-    number(reference.x1 as u64);
-    number(reference.y1 as u64);
-    number(reference.x2 as u64);
-    number(reference.y2 as u64);
-    number(clauses.len() as u64);
+fn print_query(rt: &impl Print, name: &[u8], reference: Rect, clauses: &[u64]) -> io::Result<()> {
+    text(rt, name)?;
+    number(rt, reference.x1 as u64)?;
+    number(rt, reference.y1 as u64)?;
+    number(rt, reference.x2 as u64)?;
+    number(rt, reference.y2 as u64)?;
+    number(rt, clauses.len() as u64)?;
     for c in 0..clauses.len() {
-        number(clauses[c]);
+        number(rt, clauses[c])?;
     }
-    text(b" |");
+    text(rt, b" |")
 }
 
 fn blank(answer: &mut [u16]) {
@@ -125,37 +128,62 @@ fn blank(answer: &mut [u16]) {
 }
 
 // Refusal, hits, opened pages, the listing, and the sum of all words of the answer slice.
-fn ask_query(table: &[u32], reference: Rect, clauses: &[u64], answer: &mut [u16]) {
+fn ask_query(
+    rt: &impl Print,
+    table: &[u32],
+    reference: Rect,
+    clauses: &[u64],
+    answer: &mut [u16],
+) -> io::Result<()> {
     let a = query::query(table, reference, clauses, answer);
-    number(a.refusal as u64);
-    number(a.hits as u64);
-    number(a.opened as u64);
-    print_words(query::front(answer, a.hits as usize));
-    print_sum(answer);
+    number(rt, a.refusal as u64)?;
+    number(rt, a.hits as u64)?;
+    number(rt, a.opened as u64)?;
+    print_words(rt, query::front(answer, a.hits as usize))?;
+    print_sum(rt, answer)
 }
 
 // Refusal, count, the opened pages, and the sum.
-fn ask_opened(table: &[u32], reference: Rect, clauses: &[u64], answer: &mut [u16]) {
+fn ask_opened(
+    rt: &impl Print,
+    table: &[u32],
+    reference: Rect,
+    clauses: &[u64],
+    answer: &mut [u16],
+) -> io::Result<()> {
     let o = query::opened_pages(table, reference, clauses, answer);
-    text(b" |");
-    number(o.refusal as u64);
-    number(o.count as u64);
-    print_pages(query::front(answer, o.count as usize));
-    print_sum(answer);
+    text(rt, b" |")?;
+    number(rt, o.refusal as u64)?;
+    number(rt, o.count as u64)?;
+    print_pages(rt, query::front(answer, o.count as usize))?;
+    print_sum(rt, answer)
 }
 
-fn ask(name: &[u8], table: &[u32], reference: Rect, clauses: &[u64], answer: &mut [u16]) {
-    print_query(name, reference, clauses);
+fn ask(
+    rt: &impl Print,
+    name: &[u8],
+    table: &[u32],
+    reference: Rect,
+    clauses: &[u64],
+    answer: &mut [u16],
+) -> io::Result<()> {
+    print_query(rt, name, reference, clauses)?;
     blank(answer);
-    ask_query(table, reference, clauses, answer);
+    ask_query(rt, table, reference, clauses, answer)?;
     blank(answer);
-    ask_opened(table, reference, clauses, answer);
-    text(b"\n");
+    ask_opened(rt, table, reference, clauses, answer)?;
+    text(rt, b"\n")
 }
 
-fn ask_one(name: &[u8], table: &[u32], list: &[u64], answer: &mut [u16]) {
+fn ask_one(
+    rt: &impl Print,
+    name: &[u8],
+    table: &[u32],
+    list: &[u64],
+    answer: &mut [u16],
+) -> io::Result<()> {
     if list.len() < QUERY_WORDS {
-        return;
+        return Ok(());
     }
     let reference = Rect {
         x1: edge(list[0]),
@@ -164,22 +192,36 @@ fn ask_one(name: &[u8], table: &[u32], list: &[u64], answer: &mut [u16]) {
         y2: edge(list[3]),
     };
     let end = QUERY_HEAD + few(list[4]);
-    ask(name, table, reference, &list[QUERY_HEAD..end], answer);
+    ask(rt, name, table, reference, &list[QUERY_HEAD..end], answer)
 }
 
-fn ask_all(name: &[u8], table: &[u32], list: &[u64], answer: &mut [u16]) {
+fn ask_all(
+    rt: &impl Print,
+    name: &[u8],
+    table: &[u32],
+    list: &[u64],
+    answer: &mut [u16],
+) -> io::Result<()> {
     for q in 0..list.len() / QUERY_WORDS {
         let from = QUERY_WORDS * q;
         let end = from + QUERY_WORDS;
-        ask_one(name, table, &list[from..end], answer);
+        ask_one(rt, name, table, &list[from..end], answer)?;
     }
+    Ok(())
 }
 
 // With an answer slice of `room` words.
-fn ask_room(name: &[u8], table: &[u32], room: usize, answer: &mut [u16]) {
+fn ask_room(
+    rt: &impl Print,
+    name: &[u8],
+    table: &[u32],
+    room: usize,
+    answer: &mut [u16],
+) -> io::Result<()> {
     if room <= answer.len() {
-        ask_all(name, table, &SOME_QUERIES, &mut answer[..room]);
+        ask_all(rt, name, table, &SOME_QUERIES, &mut answer[..room])?;
     }
+    Ok(())
 }
 
 // The first n words, or none where there are fewer.
@@ -192,52 +234,60 @@ fn first_words(table: &[u32], n: usize) -> &[u32] {
 }
 
 // Answer slices that are just long enough for each call, and one word shorter.
-fn ask_rooms(nine: &[u32], empty: &[u32], answer: &mut [u16]) {
-    ask_room(b"nine-words", nine, 9, answer);
-    ask_room(b"eight-words", nine, 8, answer);
-    ask_room(b"three-words", nine, 3, answer);
-    ask_room(b"two-words", nine, 2, answer);
-    ask_room(b"empty-one-word", empty, 1, answer);
-    ask_room(b"empty-no-word", empty, 0, answer);
+fn ask_rooms(rt: &impl Print, nine: &[u32], empty: &[u32], answer: &mut [u16]) -> io::Result<()> {
+    ask_room(rt, b"nine-words", nine, 9, answer)?;
+    ask_room(rt, b"eight-words", nine, 8, answer)?;
+    ask_room(rt, b"three-words", nine, 3, answer)?;
+    ask_room(rt, b"two-words", nine, 2, answer)?;
+    ask_room(rt, b"empty-one-word", empty, 1, answer)?;
+    ask_room(rt, b"empty-no-word", empty, 0, answer)
 }
 
-fn ask_refused(nine: &[u32], zeros: &[u32], answer: &mut [u16]) {
-    ask_all(b"refused", nine, &REFUSED_QUERIES, answer);
-    ask_all(b"unsound", zeros, &SOME_QUERIES, answer);
+fn ask_refused(rt: &impl Print, nine: &[u32], zeros: &[u32], answer: &mut [u16]) -> io::Result<()> {
+    ask_all(rt, b"refused", nine, &REFUSED_QUERIES, answer)?;
+    ask_all(rt, b"unsound", zeros, &SOME_QUERIES, answer)?;
     ask_all(
+        rt,
         b"short-table",
         first_words(nine, SHORT),
         &SOME_QUERIES,
         answer,
-    );
+    )
 }
 
-fn ask_tables(nine: &[u32], three: &[u32], zeros: &[u32], empty: &[u32], answer: &mut [u16]) {
-    ask_all(b"nine", nine, &NINE_QUERIES, answer);
-    ask_all(b"three-levels", three, &THREE_LEVELS_QUERIES, answer);
-    ask_refused(nine, zeros, answer);
-    ask_rooms(nine, empty, answer);
+fn ask_tables(
+    rt: &impl Print,
+    nine: &[u32],
+    three: &[u32],
+    zeros: &[u32],
+    empty: &[u32],
+    answer: &mut [u16],
+) -> io::Result<()> {
+    ask_all(rt, b"nine", nine, &NINE_QUERIES, answer)?;
+    ask_all(rt, b"three-levels", three, &THREE_LEVELS_QUERIES, answer)?;
+    ask_refused(rt, nine, zeros, answer)?;
+    ask_rooms(rt, nine, empty, answer)
 }
 
 // The length of the slice, the count, and the part that the front call hands back.
-fn print_front(answer: &[u16], count: usize) {
-    text(b"front");
-    number(answer.len() as u64);
-    number(count as u64);
-    print_words(query::front(answer, count));
-    text(b"\n");
+fn print_front(rt: &impl Print, answer: &[u16], count: usize) -> io::Result<()> {
+    text(rt, b"front")?;
+    number(rt, answer.len() as u64)?;
+    number(rt, count as u64)?;
+    print_words(rt, query::front(answer, count))?;
+    text(rt, b"\n")
 }
 
 // A count below the length, at it, above it, and one that would be 1 in 32 bits.
-fn print_fronts() {
+fn print_fronts(rt: &impl Print) -> io::Result<()> {
     let answer = [3u16, 5, 8];
-    print_front(&answer, 2);
-    print_front(&answer, 3);
-    print_front(&answer, 4);
-    print_front(&answer, 4_294_967_297);
+    print_front(rt, &answer, 2)?;
+    print_front(rt, &answer, 3)?;
+    print_front(rt, &answer, 4)?;
+    print_front(rt, &answer, 4_294_967_297)
 }
 
-fn main() {
+fn main(rt: HostRuntime) -> io::Result<()> {
     let mut answer = [0u16; ANSWER_WORDS];
     let zeros = [0u32; pages::TABLE_WORDS];
     let mut empty = [0u32; pages::TABLE_WORDS];
@@ -246,6 +296,6 @@ fn main() {
     pages::empty(&mut empty);
     fill(&mut nine, &NINE_PIECES);
     fill(&mut three, &THREE_LEVELS);
-    ask_tables(&nine, &three, &zeros, &empty, &mut answer);
-    print_fronts();
+    ask_tables(&rt, &nine, &three, &zeros, &empty, &mut answer)?;
+    print_fronts(&rt)
 }
