@@ -14,23 +14,25 @@ use Rattle.pages.proofs.Lists.{T_true}
 use Rattle.job.specs.Sizes.{LINE_BYTES}
 use Rattle.job.specs.Output.{bad_job}
 use Rattle.job.specs.Words.{piece_count, query_count, well_formed, output}
-use Rattle.job.specs.Steps.{piece_line_at, query_line_at, lines_to}
+use Rattle.pages.specs.Calls.{empty_words}
+use Rattle.job.specs.Steps.{table_at, piece_line_at, query_line_at, lines_to}
 use Rattle.job.proofs.Claimed.{claimed}
+use Rattle.job.proofs.Tables.{first-table}
 use Rattle.job_io.specs.Gathered.{kept, held, held_pieces, held_queries, held_at_end, Gathered}
 
 -- the buffer before the next line
-kept-tests : (size : ℕ) (before : List ℕ) → kept size before ≡ cond (leb (length before + LINE_BYTES) size) before []
+kept_tests : (size : ℕ) (before : List ℕ) → kept size before ≡ cond (leb (length before + LINE_BYTES) size) before []
 unfolding kept
-kept-tests size before = refl
+kept_tests size before = refl
 
-pub kept-all : (out : List ℕ) (used : ℕ) → used + LINE_BYTES ≤ length out → take used out ≡ kept (length out) (take used out)
-kept-all out used h =
-    sym (kept-tests (length out) (take used out)
+pub kept_all : (out : List ℕ) (used : ℕ) → used + LINE_BYTES ≤ length out → take used out ≡ kept (length out) (take used out)
+kept_all out used h =
+    sym (kept_tests (length out) (take used out)
     ∙ ap (λ t. cond t (take used out) []) (le-leb (length (take used out) + LINE_BYTES) (length out) (omega (arith, length-take-le used out (omega arith)))))
 
-pub kept-none : (out : List ℕ) (used : ℕ) → used ≤ length out → length out < used + LINE_BYTES → take 0 out ≡ kept (length out) (take used out)
-kept-none out used h k =
-    sym (kept-tests (length out) (take used out) ∙ ap (λ t. cond t (take used out) []) (lt-leb (length (take used out) + LINE_BYTES) (length out) (omega (arith, length-take-le used out h))))
+pub kept_none : (out : List ℕ) (used : ℕ) → used ≤ length out → length out < used + LINE_BYTES → take 0 out ≡ kept (length out) (take used out)
+kept_none out used h k =
+    sym (kept_tests (length out) (take used out) ∙ ap (λ t. cond t (take used out) []) (lt-leb (length (take used out) + LINE_BYTES) (length out) (omega (arith, length-take-le used out h))))
 
 -- what the definitions say of no line, and of one more
 pub no_line : (size : ℕ) (before : List ℕ) (line : ℕ → List ℕ) → held size before line 0 ≡ before
@@ -41,13 +43,16 @@ line-more : (size : ℕ) (before : List ℕ) (line : ℕ → List ℕ) (n : ℕ)
 unfolding held
 line-more size before line n = refl
 
-pub pieces-held : (size : ℕ) (b : List ℕ) → held_pieces size b ≡ held size [] (piece_line_at b) (piece_count b)
-unfolding held_pieces
-pieces-held size b = refl
+pub no_piece : (b : List ℕ) → table_at b 0 ≡ empty_words
+no_piece b = first-table b
 
-pub queries-held : (size : ℕ) (b : List ℕ) → held_queries size b ≡ held size (held_pieces size b) (query_line_at b) (query_count b)
+pub pieces_held : (size : ℕ) (b : List ℕ) → held_pieces size b ≡ held size [] (piece_line_at b) (piece_count b)
+unfolding held_pieces
+pieces_held size b = refl
+
+pub queries_held : (size : ℕ) (b : List ℕ) → held_queries size b ≡ held size (held_pieces size b) (query_line_at b) (query_count b)
 unfolding held_queries
-queries-held size b = refl
+queries_held size b = refl
 
 held-tests : (size : ℕ) (b : List ℕ) → held_at_end size b ≡ cond (well_formed b) (held_queries size b) bad_job
 unfolding held_at_end
@@ -83,7 +88,7 @@ module _ (out : List ℕ) (used : ℕ) (room : used + LINE_BYTES ≤ length out)
 
 -- what the buffer holds is the end of the text
 kept-gathered : (size : ℕ) (text before : List ℕ) → Gathered text before → Gathered text (kept size before)
-kept-gathered size text before g = subst (Gathered text) (sym (kept-tests size before)) (go (leb (length before + LINE_BYTES) size))
+kept-gathered size text before g = subst (Gathered text) (sym (kept_tests size before)) (go (leb (length before + LINE_BYTES) size))
   where
     go : (t : Bool) → Gathered text (cond t before [])
     go true = g
@@ -100,12 +105,12 @@ lines-gathered size text before f g (suc n) =
 
 module _ (size : ℕ) (b : List ℕ) where
   pieces-gathered : Gathered (lines_to (piece_line_at b) (piece_count b)) (held_pieces size b)
-  pieces-gathered = subst (Gathered (lines_to (piece_line_at b) (piece_count b))) (sym (pieces-held size b)) (lines-gathered size [] [] (piece_line_at b) (record { sent = []; whole = refl }) (piece_count b))
+  pieces-gathered = subst (Gathered (lines_to (piece_line_at b) (piece_count b))) (sym (pieces_held size b)) (lines-gathered size [] [] (piece_line_at b) (record { sent = []; whole = refl }) (piece_count b))
 
   queries-gathered : T (well_formed b) → Gathered (output b) (held_queries size b)
   queries-gathered good =
       let all = lines-gathered size _ (held_pieces size b) (query_line_at b) pieces-gathered (query_count b) in
-      record { sent = all.sent; whole = claimed.in_order b good ∙ all.whole ∙ ap (λ l. all.sent ++ l) (sym (queries-held size b)) }
+      record { sent = all.sent; whole = claimed.in_order b good ∙ all.whole ∙ ap (λ l. all.sent ++ l) (sym (queries_held size b)) }
 
   -- what the buffer holds at the end, of a well-formed job and of any other
   pub good-end : (front : List ℕ) → T (well_formed b) → front ≡ held_queries size b → (front ≡ held_at_end size b) × Gathered (output b) front
@@ -115,6 +120,3 @@ module _ (size : ℕ) (b : List ℕ) where
   pub bad-end : (front : List ℕ) → well_formed b ≡ false → front ≡ bad_job → (front ≡ held_at_end size b) × Gathered (output b) front
   bad-end front bad e =
       (e ∙ sym (held-tests size b ∙ ap (λ t. cond t (held_queries size b) bad_job) bad), record { sent = []; whole = claimed.bad b bad ∙ sym e })
-
-pub never : {P : Type 0} → false ≡ true → P
-never h = let z : ◌≡◌ {A = ℕ} 0 1 = cc in absurd (omega arith)

@@ -56,6 +56,7 @@ fn flush<W: Write>(to: &mut W, out: &[u8], used: usize) -> io::Result<()>
 
 // Writes what is gathered where the next line might not fit behind it, and gives how many bytes of the buffer are used then, as each
 // function below does, unless a write failed.
+#[tactic(auto, using(crate::proofs::Gathered::kept_all, crate::proofs::Gathered::kept_none))]
 fn make_room<W: Write>(to: &mut W, out: &[u8], used: usize) -> io::Result<usize>
     requires { (used ≤ length out.now) × (LINE_BYTES ≤ length out.now) }
     ensures room { IfOk result (λ n. n + LINE_BYTES ≤ length out.now) }
@@ -68,6 +69,7 @@ fn make_room<W: Write>(to: &mut W, out: &[u8], used: usize) -> io::Result<usize>
     Ok(0)
 }
 
+#[tactic(auto, using(crate::proofs::Gathered::no_line, crate::proofs::Gathered::no_piece, crate::proofs::Gathered::pieces_held))]
 fn place_pieces<W: Write>(
     to: &mut W,
     bytes: &[u8],
@@ -89,6 +91,7 @@ fn place_pieces<W: Write>(
     Ok(used)
 }
 
+#[tactic(auto, using(crate::proofs::Gathered::no_line, crate::proofs::Gathered::queries_held))]
 fn answer_queries<W: Write>(
     to: &mut W,
     bytes: &[u8],
