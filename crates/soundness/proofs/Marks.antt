@@ -10,9 +10,12 @@ use lib.ListN.{length, get_or, set}
 use lib.Seq.{get_or-set_same, get_or-set_other}
 use lib.Dec.{eqb}
 use borrow.Author.Tests.{eqb-true, eqb-false, eq-eqb, ne_eqb}
+use Rattle.pages.specs.declared.Entry.{Entry}
+use Rattle.pages.specs.Sizes.{PIECES}
 use Rattle.pages.specs.Lists.{one, sum_below}
+use Rattle.pages.specs.Sound.{is}
 use Rattle.pages.proofs.Lists.{not-both}
-use Rattle.soundness.specs.Steps.{Adds, Room, Tested}
+use Rattle.soundness.specs.Steps.{Adds, Room, Tested, Piece}
 
 -- one mark
 module _ (n : ℕ) (h h' : List ℕ) (i : ℕ) where
@@ -52,6 +55,10 @@ module _ (n : ℕ) (h h' : List ℕ) (i : ℕ) where
 -- a test that fails
 pub tested-not : (n : ℕ) (P : Type 0) (f : ℕ → ℕ) (h h' : List ℕ) (r : Bool) → r ≡ false → (P → ⊥) → Tested n P f h r h'
 tested-not n P f h h' r e k = record { yes = λ t. absurd (not-both r t e); no = λ _ p _. k p }
+
+-- a number above 1,023 is no piece's
+pub number_refused : (e : Entry) (h : List ℕ) → PIECES ≤ e.r → Tested PIECES (Piece e) (λ c. is c e) h false h
+number_refused e h l = tested-not _ _ _ _ _ _ refl (λ z. omega (arith, z.1, l))
 
 -- one after the other
 pub adds_none : (n : ℕ) (h : List ℕ) → Adds n h h (λ q. 0)

@@ -139,6 +139,7 @@ fn enter(
 }
 
 // The tests of an entry in a leaf: its number, its rectangle, and that the number was not met before.
+#[tactic(auto, using(crate::proofs::Marks::number_refused))]
 fn take_piece(e: pages::Entry, numbers: &mut [u8; NUMBERS]) -> bool
     ensures { Tested PIECES (Piece e) (λ c. is c e) numbers.old result numbers.new }
 {

@@ -9,7 +9,7 @@ returns-then-bytes-lt-WORD_BYTES c = c.bad_shape-then-bytes-lt-WORD_BYTES.ensure
 
 pub returns-then-bytes-count : goal.returns-then-bytes-count
 returns-then-bytes-count c = let count = c.word_at-pieces in
-    c.bad_shape-then-bytes-count.ensures ∙ no-count c.args.bytes.now count.result count.ensures c.if-bytes-count.true
+    c.bad_shape-then-bytes-count.ensures ∙ no-count c.args.bytes.now count.result count.ensures (omega arith)
 
 pub ends_there-requires : goal.ends_there-requires
 ends_there-requires c = let count = c.word_at-pieces in

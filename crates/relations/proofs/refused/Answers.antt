@@ -2,7 +2,7 @@
 use mathlib.Core.Path.{◌≡◌, refl, ap, sym, ◌∙◌}
 use Prim.Native.Nat.{ℕ}
 use native.Mathlib.Omega.{arith}
-use lib.ListN.{length, drop}
+use lib.ListN.{length, get_or, drop}
 use lib.Seq.{drop-length}
 use Rattle.relations.specs.Query.{some_bad}
 use Rattle.relations.proofs.Answer.{refuse-none, refuse-bad, accept, bad-zero, bad-high, good, bad-here, bad-later}
@@ -23,7 +23,7 @@ pub returns-then-clause : goal.returns-then-clause
 returns-then-clause c =
     refuse-bad _ c.if-clauses-eq0.false (omega arith)
     (bad-here _ _ c.loop-c-test.true c.loop-c.invariant.1
-    (bad-high _ c.if-clause-eq0.false c.if-clause.true))
+    (bad-high (get_or c.args.clauses.now c.loop-c.c 0) c.if-clause-eq0.false (omega arith)))
 
 pub loop-c-preserved : goal.loop-c-preserved
 loop-c-preserved c = (

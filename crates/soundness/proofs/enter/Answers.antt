@@ -22,7 +22,7 @@ returns-then-page-level c =
     let a = c.args in
     let m : length (table_in a.table.now).pages ≤ PAGES = omega (arith, c.requires) in
     let l : a.p < length (table_in a.table.now).pages = omega (arith, c.requires, c.if-p-k.false) in
-    tested-not _ _ _ _ _ _ refl (head-level _ _ _ a.p _ c.requires.0 l m c.page_of-page.ensures.1 c.if-page-level.true)
+    tested-not _ _ _ _ _ _ refl (head-level _ _ _ a.p _ c.requires.0 l m c.page_of-page.ensures.1 (λ e. omega (arith, e, c.if-page-level.true)))
 
 pub returns-then-n-least : goal.returns-then-n-least
 returns-then-n-least c =

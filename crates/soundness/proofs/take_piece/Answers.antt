@@ -1,13 +1,9 @@
 -- Each test that fails is one of those of an entry in a leaf.
 use Rattle.std.proofs.Common.{rules}
-use native.Mathlib.Omega.{arith}
 use mathlib.Core.Path.{refl, sym, ◌∙◌}
 use Rattle.pages.proofs.Lists.{true-T, false-T}
 use Rattle.soundness.proofs.Marks.{tested-not, tested-last}
 use Rattle.soundness.proofs.take_piece.Goals as goal
-
-pub returns-then-e-ge-PIECES : goal.returns-then-e-ge-PIECES
-returns-then-e-ge-PIECES c = tested-not _ _ _ _ _ _ refl (λ z. omega (arith, z.1, c.if-e-ge-PIECES.true))
 
 pub returns-then-not-is_valid : goal.returns-then-not-is_valid
 returns-then-not-is_valid c = tested-not _ _ _ _ _ _ refl (λ z. false-T _ (sym c.is_valid.ensures ∙ c.if-not-is_valid.true) z.0)
