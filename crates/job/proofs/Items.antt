@@ -25,6 +25,7 @@ use Rattle.job.specs.Steps.{table_at, piece_line_at, query_line_at, answer_after
 use Rattle.job.proofs.Places.{first-start, next_start, ends-before, starts-after}
 use Rattle.job.proofs.Tables.{place_is, query-is, fine-table}
 use Rattle.job.proofs.Asking.{same_line}
+use Rattle.job.proofs.Writing.{put-none}
 
 module _ (b : List ℕ) (good : T (well_formed b)) where
   parts : T (leb (length b) JOB_BYTES) × T (eqb (length b) (WORD_BYTES * query_start b (query_count b)))
@@ -72,6 +73,9 @@ module _ (b : List ℕ) (i : ℕ) (t : List ℕ) (number : ℕ) (rect : Rect) (t
 
   placed : (x : ℕ × List ℕ) (out its : List ℕ) → x ≡ put 0 its out → piece_line_at b i ≡ its → (x, t') ≡ piece_placed b i out
   placed x out its e l = rw (e, l, table_is)
+
+  pub piece-accepted : (out : List ℕ) → r ≡ ACCEPTED → ((0, out), t') ≡ piece_placed b i out
+  piece-accepted out e = placed (0, out) out [] (put-none out 0) (line-is ∙ line-tests ∙ rw (eq-eqb r ACCEPTED e))
 
   pub piece-refused : (x : ℕ × List ℕ) (out : List ℕ) → (r ≡ ACCEPTED → ⊥) → x ≡ put 0 (line UNPLACED (i ∷ r ∷ [])) out → (x, t') ≡ piece_placed b i out
   piece-refused x out e l = placed x out (line UNPLACED (i ∷ r ∷ [])) l (line-is ∙ line-tests ∙ rw (ne_eqb r ACCEPTED e))
