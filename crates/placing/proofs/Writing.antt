@@ -13,13 +13,13 @@ use Rattle.pages.proofs.Over.{over}
 use Rattle.pages.proofs.Round.{size-entry, size-page, cell}
 use Rattle.placing.specs.Steps.{entry_set, appended, put_page}
 
-get_d_any : (es : List Entry) (i : ℕ) (d e : Entry) → i < length es → get_or es i d ≡ get_or es i e
-get_d_any [] i d e h = absurd (omega arith)
-get_d_any (x ∷ es) zero d e h = refl
-get_d_any (x ∷ es) (suc i) d e h = get_d_any es i d e (omega arith)
+get_or_any : (es : List Entry) (i : ℕ) (d e : Entry) → i < length es → get_or es i d ≡ get_or es i e
+get_or_any [] i d e h = absurd (omega arith)
+get_or_any (x ∷ es) zero d e h = refl
+get_or_any (x ∷ es) (suc i) d e h = get_or_any es i d e (omega arith)
 
 pub entry-in : (es : List Entry) (f n i : ℕ) (d : Entry) → length es ≡ 9 → f + n ≤ 9 → i < n → get_or es (f + i) d ≡ get_or (take n (drop f es)) i no_entry
-entry-in es f n i d e h k = get_d_any es (f + i) d no_entry (omega arith) ∙ rw (get_or-take n (drop f es) i no_entry k, get_or-drop f es i no_entry)
+entry-in es f n i d e h k = get_or_any es (f + i) d no_entry (omega arith) ∙ rw (get_or-take n (drop f es) i no_entry k, get_or-drop f es i no_entry)
 
 pub entry-out : (es : List Entry) (f n i : ℕ) → n ≤ i → no_entry ≡ get_or (take n (drop f es)) i no_entry
 entry-out es f n i h = sym (get_or-eq_default (take n (drop f es)) no_entry (simp length-take (omega arith)))
