@@ -9,14 +9,20 @@ use std::rt::Files;
 // No path is longer.
 const PATH_BYTES: usize = 4_096;
 
-// A path that is no text is not opened.
-fn run_file<R: Files + Print + Eprint>(rt: &R, path: &[u8]) -> io::Result<()> {
-    rt.write_all(path)?;
-    rt.write_all(b"\n")?;
-    let name = str::from_utf8(path).unwrap_or("");
+fn run_named<R: Files + Print + Eprint>(rt: &R, name: &str) -> io::Result<()> {
     match File::open(rt, name) {
         Ok(mut from) => job_io::run(&mut from, &mut io::writer(rt)),
         Err(e) => eprintln!(rt; "{name}: {e}"),
+    }
+}
+
+// Paths of std are texts: one that is none is not opened.
+fn run_file<R: Files + Print + Eprint>(rt: &R, path: &[u8]) -> io::Result<()> {
+    rt.write_all(path)?;
+    rt.write_all(b"\n")?;
+    match str::from_utf8(path) {
+        Ok(name) => run_named(rt, name),
+        Err(e) => eprintln!(rt; "the path above is no text: {e}"),
     }
 }
 
