@@ -9,13 +9,17 @@ use mathlib.Core.List.{List}
 use lib.ListN.{length, get_or}
 use lib.Dec.{T, ltb}
 use borrow.Author.Tests.{lt-ltb, le-ltb}
+use Rattle.std.specs.Prelude.{Ok, Err}
+use Rattle.refusals.specs.declared.Refusal.{Refusal}
+use Rattle.refusals.specs.declared.Refusal.TheVariants.{TableTooShort, RectangleNotValid, NumberTooLarge, ClauseCount, ClauseNotValid, TableNotSound, AlreadyStanding, AnswerTooShort, PointCount, CoordinateTooLarge}
+use Rattle.refusals.specs.Numbers.{number_of}
 use Rattle.pages.specs.Sizes.{TABLE_WORDS}
 use Rattle.pages.specs.Refusals.{ACCEPTED, TABLE_TOO_SHORT, TABLE_NOT_SOUND}
 use Rattle.pages.specs.Layout.{table_in}
 use Rattle.pages.specs.Sound.{sound}
 use Rattle.pages.proofs.Lists.{true-T, T_true, false-T, T_false}
 use Rattle.soundness.specs.declared.Checked.{Checked}
-use Rattle.soundness.specs.Calls.{check_call}
+use Rattle.soundness.specs.Calls.{checked_of, check_call}
 use Rattle.soundness.proofs.Words.{pieces-word}
 
 abbrev too_short : Checked
@@ -75,6 +79,27 @@ module _ (w : List ℕ) (c : Checked) (e : c ≡ check_call w) where
       ap (λ x. refuse x.refusal) e
       ∙ answers w (λ r. r.refusal ≢ ACCEPTED → refuse r.refusal ≡ cond (ltb (length w) TABLE_WORDS) (refuse TABLE_TOO_SHORT) (cond (sound w) go_on (refuse TABLE_NOT_SOUND)))
       (λ l m. rw (lt-ltb (length w) TABLE_WORDS l)) (λ l u m. rw (le-ltb (length w) TABLE_WORDS l, T_false (sound w) u)) (λ l s m. absurd (m refl)) (λ z. n (ap (λ x. x.refusal) e ∙ z))
+
+number-some : (why : Refusal) → number_of why ≢ ACCEPTED
+number-some TableTooShort e = absurd (omega arith)
+number-some RectangleNotValid e = absurd (omega arith)
+number-some NumberTooLarge e = absurd (omega arith)
+number-some ClauseCount e = absurd (omega arith)
+number-some ClauseNotValid e = absurd (omega arith)
+number-some TableNotSound e = absurd (omega arith)
+number-some AlreadyStanding e = absurd (omega arith)
+number-some AnswerTooShort e = absurd (omega arith)
+number-some PointCount e = absurd (omega arith)
+number-some CoordinateTooLarge e = absurd (omega arith)
+
+-- the same at the two ways on from a `?`
+module _ (w : List ℕ) where
+  pub ok-sound : (n : ℕ) → checked_of (Ok n) ≡ check_call w → (TABLE_WORDS ≤ length w) × T (sound w)
+  ok-sound n e = checked-sound w (checked_of (Ok n)) e refl
+
+  pub err_refused : (why : Refusal) → checked_of (Err why) ≡ check_call w → {A : Type 0} (refuse : ℕ → A) (go_on : A)
+      → refuse (number_of why) ≡ cond (ltb (length w) TABLE_WORDS) (refuse TABLE_TOO_SHORT) (cond (sound w) go_on (refuse TABLE_NOT_SOUND))
+  err_refused why e refuse go_on = checked_refused w (checked_of (Err why)) e refuse go_on (number-some why)
 
 pub checked-passed : (w : List ℕ) → TABLE_WORDS ≤ length w → T (sound w) → {A : Type 0} (x y z : A) → cond (ltb (length w) TABLE_WORDS) x (cond (sound w) y z) ≡ y
 checked-passed w l s x y z = rw (le-ltb (length w) TABLE_WORDS l, T_true (sound w) s)

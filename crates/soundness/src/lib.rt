@@ -8,17 +8,35 @@ ghost use Rattle.pages.specs.Rectangles.{same_rect};
 ghost use Rattle.pages.specs.Layout.{table_in};
 ghost use Rattle.pages.specs.Readers.{entries_in};
 ghost use Rattle.pages.specs.Sound.{is, zeros, sound};
-ghost use Rattle.soundness.specs.Calls.{check_call};
+ghost use Rattle.soundness.specs.Calls.{checked_of, check_call};
 ghost use Rattle.soundness.specs.Steps.{total_of, merged_of, Piece, Head, Tested, LeafTested, Visited, with_child, root_fewest, Rooted};
 
 use pages::{FEWEST, NUMBERS, PAGE_COUNT, PIECE_COUNT, ROOT, ROOT_LEAST, TOP_LEVEL};
+use refusals::{ACCEPTED, Refusal};
 
-// What check answers: a count of 6 is no refusal 6, so they stand apart.
+/// What C gets of what check returns: a count of 6 is no refusal 6, so they stand apart.
 #[repr(C)]
 #[derive(Drop)]
 pub struct Checked {
     pub refusal: u32,
     pub pieces: u32,
+}
+
+impl From<Result<u32, Refusal>> for Checked {
+    ghost from_gives = { λ r c. c ≡ checked_of r };
+
+    fn from(answer: Result<u32, Refusal>) -> Self {
+        match answer {
+            Ok(pieces) => Checked {
+                refusal: ACCEPTED,
+                pieces,
+            },
+            Err(refusal) => Checked {
+                refusal: refusal.number(),
+                pieces: 0,
+            },
+        }
+    }
 }
 
 // What a visit of a page hands back: whether all was good, and then the bounds of its entries.
@@ -292,24 +310,15 @@ fn is_sound(table: &[u32]) -> bool
     is_sound_from(table, k, root, level)
 }
 
-// Whether the table is sound, and then how many pieces it has.
-pub fn check(table: &[u32]) -> Checked
-    ensures { result ≡ check_call table.now }
+/// Whether the table is sound, and then how many pieces it has.
+pub fn check(table: &[u32]) -> Result<u32, Refusal>
+    ensures { checked_of result ≡ check_call table.now }
 {
     if table.len() < pages::TABLE_WORDS {
-        return Checked {
-            refusal: pages::TABLE_TOO_SHORT,
-            pieces: 0,
-        };
+        return Err(Refusal::TableTooShort);
     }
     if !is_sound(table) {
-        return Checked {
-            refusal: pages::TABLE_NOT_SOUND,
-            pieces: 0,
-        };
+        return Err(Refusal::TableNotSound);
     }
-    Checked {
-        refusal: pages::ACCEPTED,
-        pieces: table[PIECE_COUNT],
-    }
+    Ok(table[PIECE_COUNT])
 }
