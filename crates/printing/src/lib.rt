@@ -2,36 +2,28 @@
 // that the programs need no bounds.
 #![tactic(auto)]
 
-ghost use Rattle.std.specs.Prelude.{◌≡◌, ◌≤◌, get_or, set};
+ghost use Rattle.std.specs.Prelude.{◌≡◌, get_or, set};
 
 use pages::Rect;
-use std::io;
-
-// How many values a word has.
-pub const WORD_VALUES: u64 = 4_294_967_296;
+use std::fmt::Display;
+use std::{io, iter};
 
 // How many numbers of a listing are printed; the checksum has them all.
 const SHOWN: u32 = 24;
 
-pub fn text(rt: &impl Print, t: &[u8]) -> io::Result<()> {
-    rt.write_all(t)
+pub fn number<N: Display + Drop>(rt: &impl Print, n: N) -> io::Result<()> {
+    print!(rt; " {n}")
 }
 
-pub fn number(rt: &impl Print, n: u32) -> io::Result<()> {
-    text(rt, b" ")?;
-    rt.print(n)
-}
-
-pub fn long_number(rt: &impl Print, n: u64) -> io::Result<()> {
-    text(rt, b" ")?;
-    rt.print(n)
+fn numbers<N: Display>(rt: &impl Print, list: &[N]) -> io::Result<()> {
+    for n in list {
+        number(rt, n)?;
+    }
+    Ok(())
 }
 
 pub fn edges(rt: &impl Print, r: Rect) -> io::Result<()> {
-    number(rt, r.x1)?;
-    number(rt, r.y1)?;
-    number(rt, r.x2)?;
-    number(rt, r.y2)
+    print!(rt; " {} {} {} {}", r.x1, r.y1, r.x2, r.y2)
 }
 
 // A store past the end does nothing.
@@ -47,55 +39,26 @@ pub fn store(list: &mut [u32], i: usize, value: u32)
 pub fn word(list: &[u32], i: usize) -> u32
     ensures { result ≡ get_or list.now i 0 }
 {
-    if i < list.len() { list[i] } else { 0 }
+    list.get(i).copied().unwrap_or(0)
 }
 
 // The words from `from` on.
-pub fn range(rt: &impl Print, list: &[u32], from: usize, count: usize) -> io::Result<()>
-    requires { (from ≤ 15000) × (count ≤ 15000) }
+pub fn range(rt: &impl Print, list: &[u32], from: usize, count: usize) -> io::Result<()> {
+    for n in list.iter().skip(from).chain(iter::repeat(&0)).take(count) {
+        number(rt, n)?;
+    }
+    Ok(())
+}
+
+// From zero, (31 sum + word) mod 2^32 for each word in turn.
+pub fn checksum<N: Copy>(rt: &impl Print, list: &[N]) -> io::Result<()>
+where
+    u32: From<N>,
 {
-    for i in 0..count {
-        number(rt, word(list, from + i))?;
-    }
-    Ok(())
-}
-
-fn to_word(n: u16) -> u32 {
-    n as u32
-}
-
-fn short_words(rt: &impl Print, list: &[u16]) -> io::Result<()> {
-    for i in 0..list.len() {
-        number(rt, to_word(list[i]))?;
-    }
-    Ok(())
-}
-
-fn long_words(rt: &impl Print, list: &[u64]) -> io::Result<()> {
-    for i in 0..list.len() {
-        long_number(rt, list[i])?;
-    }
-    Ok(())
-}
-
-// (31 sum + word) mod 2^32
-fn added(sum: u32, word: u32) -> u32 {
-    (((sum as u64) * 31 + (word as u64)) % WORD_VALUES) as u32
-}
-
-pub fn checksum(rt: &impl Print, list: &[u32]) -> io::Result<()> {
-    let mut sum: u32 = 0;
-    for i in 0..list.len() {
-        sum = added(sum, list[i]);
-    }
-    number(rt, sum)
-}
-
-fn short_checksum(rt: &impl Print, list: &[u16]) -> io::Result<()> {
-    let mut sum: u32 = 0;
-    for i in 0..list.len() {
-        sum = added(sum, to_word(list[i]));
-    }
+    let sum = list.iter().fold(
+        0u32,
+        |sum, n| sum.wrapping_mul(31).wrapping_add(u32::from(*n)),
+    );
     number(rt, sum)
 }
 
@@ -103,11 +66,7 @@ fn short_checksum(rt: &impl Print, list: &[u16]) -> io::Result<()> {
 pub fn print_head(rt: &impl Print, table: &[u32]) -> io::Result<()> {
     range(rt, table, 0, pages::TABLE_HEAD)?;
     checksum(rt, table)?;
-    text(rt, b"\n")
-}
-
-fn least(a: u32, b: u32) -> u32 {
-    if a < b { a } else { b }
+    println!(rt)
 }
 
 // The reference and the clauses, what the query returns, the sum of the answer slice, and the first numbers of the listing.
@@ -120,14 +79,11 @@ pub fn ask(
 ) -> io::Result<()> {
     let a = query::query(table, reference, clauses, answer);
     edges(rt, reference)?;
-    long_number(rt, clauses.len() as u64)?;
-    long_words(rt, clauses)?;
-    text(rt, b" |")?;
-    number(rt, a.refusal)?;
-    number(rt, a.hits)?;
-    number(rt, a.opened)?;
-    short_checksum(rt, answer)?;
-    text(rt, b" |")?;
-    short_words(rt, query::front(answer, least(a.hits, SHOWN) as usize))?;
-    text(rt, b"\n")
+    number(rt, clauses.len())?;
+    numbers(rt, clauses)?;
+    print!(rt; " | {} {} {}", a.refusal, a.hits, a.opened)?;
+    checksum(rt, answer)?;
+    print!(rt; " |")?;
+    numbers(rt, query::front(answer, a.hits.min(SHOWN) as usize))?;
+    println!(rt)
 }
