@@ -1,6 +1,7 @@
 pub mod Lists
 pub mod Below
 pub mod Valid
+pub mod Rectangles
 pub mod Facts
 pub mod Round
 pub mod Whole

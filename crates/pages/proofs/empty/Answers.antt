@@ -1,17 +1,7 @@
--- Zeros up to i, then the words that were there.
+-- Zeros, then the words that were there.
 use Rattle.std.proofs.Common.{rules}
-use mathlib.Core.Path.{refl}
-use lib.ListN.{length-set}
-use Rattle.pages.proofs.Zeros.{zero_more, empty-done}
+use Rattle.pages.proofs.Zeros.{empty_done}
 use Rattle.pages.proofs.empty.Goals as goal
 
-pub loop-i-init : goal.loop-i-init
-loop-i-init c = (search rules, refl, refl)
-
-pub loop-i-preserved : goal.loop-i-preserved
-loop-i-preserved c =
-    (search rules, simp length-set (search rules), zero_more _ _ _ (search rules) c.loop-i.invariant.2)
-
 pub returns : goal.returns
-returns c =
-    empty-done _ c.loop-i.table c.loop-i.i (search rules) (search rules) (search rules) c.loop-i.invariant.2
+returns c = empty_done c.args.table.now c.fill.new.self _ (search rules) (search rules) (c.fill.ensures.after (search rules))
