@@ -7,6 +7,7 @@ pub mod Sound
 pub mod Refusals
 pub mod Calls
 pub mod Readers
+pub mod Writes
 pub mod Under
 pub mod Examples
 pub mod Claims

@@ -1,12 +1,14 @@
 // The page table as lent words: its sizes, readers over the words of one page, rectangles, and the empty call.
 #![tactic(auto)]
 
-ghost use Rattle.std.specs.Prelude.{◌≡◌, ◌+◌, ◌*◌, ◌≤◌, ◌<◌, length, get_or};
+ghost use Rattle.std.specs.Prelude.{List, ℕ, ◌≡◌, ◌+◌, ◌*◌, ◌≤◌, ◌<◌, length, get_or};
+ghost use Rattle.std.specs.Fn.{FnOnceReturnsAtMut, FnOnceTakesAtMut};
 ghost use Rattle.refusals.specs.Numbers.{refusal_of};
 ghost use Rattle.pages.specs.Sizes.{PAGE_WORDS, PAGES, TABLE_WORDS, FANOUT};
 ghost use Rattle.pages.specs.Rectangles.{rect_of, valid, widen, bounds};
 ghost use Rattle.pages.specs.Layout.{page_words};
 ghost use Rattle.pages.specs.Readers.{entry_in, entries_in};
+ghost use Rattle.pages.specs.Writes.{put_page};
 ghost use Rattle.pages.specs.Calls.{empty_call};
 
 use refusals::Refusal;
@@ -113,6 +115,28 @@ pub fn page_of(table: &[u32], p: usize) -> &[u32; PAGE_WORDS]
     ensures { result.now ≡ page_words table.now p }
 {
     table[TABLE_HEAD + PAGE_WORDS * p..].first_chunk().unwrap()
+}
+
+// Lends the words of page p, in the middle of the table, to a change.
+#[tactic(auto, unfolding(crate::specs::Writes::put_page))]
+pub fn change_page<F: FnOnce(&mut [u32; PAGE_WORDS])>(table: &mut [u32], p: usize, change: F)
+    requires room { (TABLE_WORDS ≤ length table.old) × (p < PAGES) }
+    requires takes { FnOnceTakesAtMut F.FnOnce change (page_words table.old p) }
+    ensures { (w : List ℕ) × (table.new ≡ put_page table.old p w) × FnOnceReturnsAtMut F.FnOnce change (page_words table.old p) tt w }
+{
+    let start = TABLE_HEAD + PAGE_WORDS * p;
+    change_words(&mut table[start..start + PAGE_WORDS], change);
+}
+
+fn change_words<F: FnOnce(&mut [u32; PAGE_WORDS])>(words: &mut [u32], change: F)
+    requires long { length words.old ≡ PAGE_WORDS }
+    requires takes { FnOnceTakesAtMut F.FnOnce change words.old }
+    ensures { FnOnceReturnsAtMut F.FnOnce change words.old tt words.new }
+{
+    match words.as_mut_array() {
+        Some(page) => change(page),
+        None => unreachable!(),
+    }
 }
 
 // The entry at place i of a page's words.
