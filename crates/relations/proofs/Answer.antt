@@ -1,19 +1,25 @@
 -- The answer of the admitted-set call: its refusals, and its count as the ones of its rows.
 use mathlib.Core.Bool.{Bool, true, false, ◌||◌}
-use mathlib.Core.List.{List}
+use mathlib.Core.List.{List, map}
 use mathlib.Core.Path.{◌≡◌, refl, sym, ap, ap₂, ◌∙◌}
 use Prim.Native.Nat.{ℕ, zero, suc, ◌+◌, ◌^◌, ◌≤◌, ◌<◌}
-use native.Mathlib.Numerals.{add-one}
+use native.Mathlib.Nat.{add-zero, zero-add}
+use native.Mathlib.Omega.{arith}
 use lib.Count.{ones}
-use lib.ListN.{length, get_or, drop, replicate}
-use lib.Seq.{drop-cons}
+use lib.ListN.{length, replicate}
+use Rattle.std.specs.Prelude.{Ok, Err, [], ◌∷◌}
+use Rattle.std.specs.List.{fold, list_any}
+use Rattle.refusals.specs.declared.Refusal.{Refusal}
+use Rattle.refusals.specs.declared.Refusal.TheVariants.{TableTooShort, RectangleNotValid, NumberTooLarge, ClauseCount, ClauseNotValid, TableNotSound, AlreadyStanding, AnswerTooShort, PointCount, CoordinateTooLarge}
+use Rattle.refusals.specs.Numbers.{number_of}
+use Rattle.relations.specs.declared.RowSets.{RowSets}
 use borrow.Author.Tests.{eq-eqb, ne_eqb, lt-ltb, le-ltb, le-leb, lt-leb}
 use Rattle.relations.specs.declared.AdmittedSet.{AdmittedSet}
-use Rattle.relations.specs.Sets.{digit, total}
+use Rattle.relations.specs.Sets.{total, listed}
 use Rattle.relations.specs.Axis.{CODES}
 use Rattle.relations.specs.Relation.{RELATIONS}
-use Rattle.relations.specs.Query.{CLAUSES, CLAUSE_COUNT, CLAUSE_NOT_VALID, admits, row_set, row_sets, admitted_count, bad_clause, some_bad, refusal_of, answer, admitted_of}
-use Rattle.relations.proofs.Bits.{ones-packed, total-same, listed_at}
+use Rattle.relations.specs.Query.{CLAUSES, CLAUSE_COUNT, CLAUSE_NOT_VALID, admits, row_set, row_sets, admitted_count, bad_clause, some_bad, refusal_of, answer, admitted_of, count_of, admitted_set_of}
+use Rattle.relations.proofs.Bits.{ones-packed, total-front, total-same}
 
 -- ---- refusals
 
@@ -47,43 +53,77 @@ module _ (c : ℕ) where
   unfolding bad_clause
   good n h = simp (ne_eqb c 0 n, lt-leb (2 ^ RELATIONS) c h)
 
-module _ (cs : List ℕ) (n : ℕ) (h : n < length cs) (rest : some_bad (drop n cs) ≡ some_bad cs) where
-  pub bad-here : bad_clause (get_or cs n 0) ≡ true → some_bad cs ≡ true
-  unfolding some_bad
-  bad-here e = sym rest ∙ ap some_bad (drop-cons cs n 0 h) ∙ ap (λ (b : Bool). b || some_bad (drop (suc n) cs)) e
+-- as the source tests the clauses, one by one
+pub some-bad : (cs : List ℕ) → list_any bad_clause cs ≡ some_bad cs
+unfolding some_bad
+some-bad [] = refl
+some-bad (c ∷ cs) = ap (λ (b : Bool). bad_clause c || b) (some-bad cs)
 
-  pub bad-later : bad_clause (get_or cs n 0) ≡ false → some_bad (drop (n + 1) cs) ≡ some_bad cs
-  unfolding some_bad
-  bad-later e =
-      ap (λ (m : ℕ). some_bad (drop m cs)) (add-one n) ∙ ap (λ (b : Bool). b || some_bad (drop (suc n) cs)) (sym e)
-      ∙ ap some_bad (sym (drop-cons cs n 0 h)) ∙ rest
+-- a refusal has another number than an accepted call
+pub number-some : (e : Refusal) → number_of e ≡ 0 → ⊥
+number-some e = elim e as (λ r. number_of r ≡ 0 → ⊥) [
+  | TableTooShort ↦ λ z. cc
+  | RectangleNotValid ↦ λ z. cc
+  | NumberTooLarge ↦ λ z. cc
+  | ClauseCount ↦ λ z. cc
+  | ClauseNotValid ↦ λ z. cc
+  | TableNotSound ↦ λ z. cc
+  | AlreadyStanding ↦ λ z. cc
+  | AnswerTooShort ↦ λ z. cc
+  | PointCount ↦ λ z. cc
+  | CoordinateTooLarge ↦ λ z. cc
+]
 
 -- ---- rows and count
 
+-- the ones of a list of rows, summed up from a on
+ones-summed : (f : ℕ → ℕ) (n a : ℕ) → fold (λ x y. x + y) a (map ones (listed f n)) ≡ a + total (λ h. ones (f h)) n
+unfolding listed total
+ones-summed f zero a = sym (add-zero a)
+ones-summed f (suc n) a =
+    ones-summed (λ k. f (suc k)) n (a + ones (f 0)) ∙ omega (arith, total-front (λ h. ones (f h)) n)
+
 module _ (cs : List ℕ) where
-  row-ones : (h : ℕ) → h < CODES → ones (get_or (row_sets cs) h 0) ≡ total (λ k. digit (admits cs (suc h) (suc k))) CODES
-  unfolding row_sets row_set
-  row-ones h l =
-      ap ones (listed_at (λ j. row_set cs (suc j)) CODES h l) ∙ ones-packed (λ k. admits cs (suc h) (suc k)) CODES
+  pub counted : count_of (row_sets cs) ≡ admitted_count cs
+  unfolding row_sets row_set admitted_count
+  counted =
+      ones-summed (λ h. row_set cs (suc h)) CODES 0 ∙ zero-add _
+      ∙ total-same _ _ CODES (λ h _. ones-packed (λ k. admits cs (suc h) (suc k)) CODES)
 
-  pub counted : total (λ h. ones (get_or (row_sets cs) h 0)) CODES ≡ admitted_count cs
-  unfolding admitted_count
-  counted = total-same _ _ CODES row-ones
+  refused-answer : (r : ℕ) → (r ≡ 0 → ⊥) → ◌≡◌ {A = AdmittedSet} (record { refusal = r; rows = replicate CODES 0; count = 0 }) (answer r cs)
+  refused-answer zero n = absurd (n refl)
+  refused-answer (suc r) n = refl
 
-  pub refused-answer : (r : ℕ) → (r ≡ 0 → ⊥) → r ≡ refusal_of cs → ◌≡◌ {A = AdmittedSet} (record { refusal = r; rows = replicate CODES 0; count = 0 }) (admitted_of cs)
+  answer-refusal : (r : ℕ) → (answer r cs).refusal ≡ r
+  answer-refusal zero = refl
+  answer-refusal (suc r) = refl
+
+  told-refusal : (admitted_of cs).refusal ≡ refusal_of cs
   unfolding admitted_of
-  refused-answer r n e = go r n ∙ ap (λ (x : ℕ). answer x cs) e
-    where
-      go : (x : ℕ) → (x ≡ 0 → ⊥) → ◌≡◌ {A = AdmittedSet} (record { refusal = x; rows = replicate CODES 0; count = 0 }) (answer x cs)
-      go zero n = absurd (n refl)
-      go (suc x) n = refl
+  told-refusal = answer-refusal (refusal_of cs)
 
-  pub accepted-answer : (l : List ℕ) (a : ℕ) → 0 ≡ refusal_of cs → l ≡ row_sets cs → a ≡ admitted_count cs → ◌≡◌ {A = AdmittedSet} (record { refusal = 0; rows = l; count = a }) (admitted_of cs)
+  -- what the call returns, where the clauses are refused, and where they are a query
+  pub refused-set : (e : Refusal) → number_of e ≡ refusal_of cs → admitted_set_of (Err e) ≡ admitted_of cs
   unfolding admitted_of
-  accepted-answer l a e p q =
-      ap₂ {C = AdmittedSet} (λ (x : List ℕ) (y : ℕ). record { refusal = 0; rows = x; count = y }) p q ∙ ap (λ (x : ℕ). answer x cs) e
+  refused-set e q = refused-answer (number_of e) (number-some e) ∙ ap (λ (x : ℕ). answer x cs) q
+
+  pub accepted-set : (set : RowSets) → set.rows ≡ row_sets cs → 0 ≡ refusal_of cs → admitted_set_of (Ok set) ≡ admitted_of cs
+  unfolding admitted_of
+  accepted-set set e q =
+      ap₂ {C = AdmittedSet} (λ (x : List ℕ) (y : ℕ). record { refusal = 0; rows = x; count = y }) e (ap count_of e ∙ counted)
+      ∙ ap (λ (x : ℕ). answer x cs) q
+
+  -- and the other way round
+  pub err-number : (e : Refusal) → admitted_set_of (Err e) ≡ admitted_of cs → number_of e ≡ refusal_of cs
+  err-number e q = ap (λ (s : AdmittedSet). s.refusal) q ∙ told-refusal
+
+  pub ok-zero : (set : RowSets) → admitted_set_of (Ok set) ≡ admitted_of cs → refusal_of cs ≡ 0
+  ok-zero set q = sym (ap (λ (s : AdmittedSet). s.refusal) q ∙ told-refusal)
 
   -- the rows of an accepted query
   pub accepted-rows : refusal_of cs ≡ 0 → (admitted_of cs).rows ≡ row_sets cs
   unfolding admitted_of
   accepted-rows e = ap (λ (x : ℕ). (answer x cs).rows) e
+
+  pub ok-rows : (set : RowSets) → admitted_set_of (Ok set) ≡ admitted_of cs → set.rows ≡ row_sets cs
+  ok-rows set q = ap (λ (s : AdmittedSet). s.rows) q ∙ accepted-rows (ok-zero set q)

@@ -54,15 +54,6 @@ module _ (f : ℕ → ℕ) (l : List ℕ) (n : ℕ) where
           ∙ e ∙ sym (ap (up_to (h + 1)) q ∙ done (h + 1) h (omega arith))
       go k a (no q) = get_or-set_other (filled h) h k v 0 q ∙ listed_at (up_to h) n k a ∙ same-but h k q
 
-  -- a turn that stores nothing, where the value stands already
-  pub filled-skip : (h : ℕ) → get_or l h 0 ≡ f h → filled h ≡ filled (h + 1)
-  unfolding filled
-  filled-skip h e = listed_same (up_to h) (up_to (h + 1)) n (λ k a. go k (ℕ_discrete k h))
-    where
-      go : (k : ℕ) → Dec (k ≡ h) → up_to h k ≡ up_to (h + 1) k
-      go k (yes q) = ap (up_to h) q ∙ rest h h (omega arith) ∙ e ∙ sym (ap (up_to (h + 1)) q ∙ done (h + 1) h (omega arith))
-      go k (no q) = same-but h k q
-
   pub filled-all : (h : ℕ) → h ≡ n → filled h ≡ listed f n
   unfolding filled
   filled-all h e = listed_same (up_to h) f n (λ k a. done h k (omega arith))

@@ -60,9 +60,9 @@ unfolding node_mask
 mask_at c l =
     packed-of (λ k. inside (suc c) (suc k)) CODES (get_or masks c 0) (mask-small c 0 l (omega arith)) (λ k h. mask-bit c k l h)
 
-pub masks-are : masks ≡ node_masks
+pub masks_are : masks ≡ node_masks
 unfolding node_masks
-masks-are = listed_of (λ c. node_mask (suc c)) CODES masks refl mask_at
+masks_are = listed_of (λ c. node_mask (suc c)) CODES masks refl mask_at
 
 code-within : (c d : ℕ) → IsCode c → IsCode d → inside c d ≡ within c d
 code-within c d ic id =

@@ -21,7 +21,7 @@ use Rattle.relations.specs.Query.{named, admits, row_set, row_sets}
 use Rattle.relations.specs.Steps.{relation_row, named_row, with_relation, cut_to}
 use Rattle.relations.proofs.Bits.{bit-zero, bit-packed, none_above, packed_none, packed-same, packed-or, packed-and, listed_at, length-listed, listed_same}
 use Rattle.relations.proofs.Lowest.{ones_none, lowest_one, lowest}
-use Rattle.relations.proofs.Filled.{filled, filled_at, filled_more, filled-skip}
+use Rattle.relations.proofs.Filled.{filled, filled_at, filled_more}
 
 -- the test of the source
 pub bit-on : (n k : ℕ) → n / 2 ^ k % 2 ≡ 1 → bit n k ≡ true
@@ -62,10 +62,12 @@ module _ (rows : List ℕ) (t h : ℕ) (s : CodeSets) (e : s ≡ sets_of t) (l :
       (ap₂ bit_or (filled_at added rows CODES h l)
       (ap (λ (x : CodeSets). x.cols) e ∙ row-there t h l (ap (λ (x : CodeSets). bit x.rows h) (sym e) ∙ b)))
 
-  pub leave-row : bit s.rows h ≡ false → filled added rows CODES h ≡ filled added rows CODES (h + 1)
-  leave-row b =
-      filled-skip added rows CODES h
-      (sym (ap (bit_or (get_or rows h 0)) (row-empty t h l (ap (λ (x : CodeSets). bit x.rows h) (sym e) ∙ b)) ∙ or_zero_r (get_or rows h 0)))
+  pub leave-row : (now : List ℕ) → now ≡ filled added rows CODES h → bit s.rows h ≡ false → set now h (get_or now h 0) ≡ filled added rows CODES (h + 1)
+  leave-row now q b =
+      ap (λ (x : List ℕ). set x h (get_or x h 0)) q
+      ∙ filled_more added rows CODES h _ l
+      (filled_at added rows CODES h l
+      ∙ sym (ap (bit_or (get_or rows h 0)) (row-empty t h l (ap (λ (x : CodeSets). bit x.rows h) (sym e) ∙ b)) ∙ or_zero_r (get_or rows h 0)))
 
 -- ---- a clause, its relations one after the other
 

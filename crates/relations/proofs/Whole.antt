@@ -1,11 +1,16 @@
 -- Where all 81 configurations with both codes in 3 to 11 are admitted, whatever has such codes passes both tests.
 use mathlib.Core.Bool.{Bool, true, false, ◌&&◌, false≢true}
 use mathlib.Core.List.{List}
-use mathlib.Core.Path.{◌≡◌, refl, sym, ap, subst, ◌∙◌}
+use mathlib.Core.Path.{◌≡◌, refl, sym, ap, ap₂, subst, ◌∙◌}
+use lib.Seq.{take-suc}
+use Rattle.std.proofs.lemmas.List.{get_or-drop, length-drop}
+use Rattle.std.proofs.lemmas.List.Sums.{fold-append}
 use Prim.Native.Nat.{ℕ, zero, suc, ◌+◌, ◌-◌, ◌≤◌, ◌<◌}
 use native.Mathlib.Decide.{ℕ_discrete}
 use native.Mathlib.Omega.{arith}
-use lib.ListN.{get_or}
+use Rattle.std.specs.List.{fold}
+use lib.Bits.{bit_and}
+use lib.ListN.{length, get_or, take, drop}
 use borrow.Author.Tests.{eqb-true}
 use Rattle.relations.specs.Sets.{bit, some_below}
 use Rattle.relations.specs.Axis.{IsCode, code}
@@ -22,6 +27,17 @@ pub record Overlapping (c : ℕ) : Type 0 where
 
 pub overlapping : (p1 p2 q1 q2 : ℕ) → p1 < q2 → q1 < p2 → Overlapping (code p1 p2 q1 q2)
 overlapping p1 p2 q1 q2 h k = subst Overlapping (code-over p1 p2 q1 q2 h k) (record { low = omega arith; high = omega (arith, side-lt p2 q2, side-lt p1 q1) })
+
+-- as the source takes what those rows have in common
+pub shared-so_far : (rows : List ℕ) (n : ℕ) → n + 3 ≤ length rows → fold bit_and (get_or rows 2 0) (take n (drop 3 rows)) ≡ shared rows n
+unfolding shared
+shared-so_far rows zero l = refl
+shared-so_far rows (suc n) l =
+    let here : n < length (drop 3 rows) = omega (arith, length-drop 3 rows) in
+    let place : 3 + n ≡ n + 3 = omega arith in
+    ap (fold bit_and (get_or rows 2 0)) (take-suc (drop 3 rows) n 0 here)
+    ∙ fold-append bit_and (get_or rows 2 0) (take n (drop 3 rows)) _
+    ∙ ap₂ bit_and (shared-so_far rows n (omega arith)) (get_or-drop 3 rows n 0 ∙ ap (λ (k : ℕ). get_or rows k 0) place)
 
 -- the bits of OVERLAPPING
 own_bits : all_below (λ k. bit OVERLAPPING (k + 2)) 9 ≡ true

@@ -1,6 +1,10 @@
 -- Queries: the clauses, what they admit, and the answer of the admitted-set call.
-use Rattle.std.specs.Prelude.{Bool, true, false, cond, ◌&&◌, ◌||◌, List, [], ◌∷◌, ℕ, zero, suc, ◌^◌, eqb, leb, ltb, length, replicate}
+use Rattle.std.specs.Prelude.{Bool, true, false, cond, ◌&&◌, ◌||◌, List, [], ◌∷◌, ℕ, zero, suc, ◌^◌, eqb, leb, ltb, length, map, sum, replicate, Result, Ok, Err}
+use Rattle.std.specs.Int.Count.{ones}
+use Rattle.refusals.specs.declared.Refusal.{Refusal}
+use Rattle.refusals.specs.Numbers.{number_of}
 use Rattle.relations.specs.declared.AdmittedSet.{AdmittedSet}
+use Rattle.relations.specs.declared.RowSets.{RowSets}
 use Rattle.relations.specs.Sets.{bit, digit, packed, total, some_below, listed}
 use Rattle.relations.specs.Axis.{CODES}
 use Rattle.relations.specs.Relation.{RELATIONS, in_relation}
@@ -59,3 +63,12 @@ answer (suc r) clauses = record { refusal = suc r; rows = replicate CODES 0; cou
 -- the answer of the admitted-set call
 unfoldable pub admitted_of : List ℕ → AdmittedSet
 admitted_of clauses = answer (refusal_of clauses) clauses
+
+-- how many configurations row sets hold
+abbrev pub count_of : List ℕ → ℕ
+count_of rows = sum (map ones rows)
+
+-- what C is told of row sets, or of their refusal
+abbrev pub admitted_set_of : Result RowSets Refusal → AdmittedSet
+admitted_set_of (Ok set) = record { refusal = 0; rows = set.rows; count = count_of set.rows }
+admitted_set_of (Err e) = record { refusal = number_of e; rows = replicate CODES 0; count = 0 }

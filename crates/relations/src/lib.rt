@@ -1,13 +1,18 @@
 // Axis codes, relations, admitted sets, and the thirteen sets of what can stand inside a page.
 #![tactic(auto)]
 
-ghost use Rattle.std.specs.Prelude.{◌≡◌, ℕ, suc, ◌<◌, length, get_or};
-ghost use Rattle.std.specs.Int.Count.{ones};
-ghost use Rattle.relations.specs.Sets.{total, listed};
+ghost use Rattle.std.specs.Prelude.{◌≡◌, ℕ, suc, ◌<◌};
+ghost use Rattle.refusals.specs.Numbers.{refusal_of};
+ghost use Rattle.relations.specs.Sets.{listed};
 ghost use Rattle.relations.specs.Axis.{CODES, code, IsCode};
 ghost use Rattle.relations.specs.Relation.{sets_of};
-ghost use Rattle.relations.specs.Query.{refusal_of, admitted_of};
+ghost use Rattle.relations.specs.Query.{count_of, some_bad, refusal_of as clauses_refusal, admitted_of, admitted_set_of};
 ghost use Rattle.relations.specs.Steps.{side_of, named_row, with_relation, cut_to, joined_of, node_masks, page_test, open_at, near_by, inner_by, overlap_by, rows_have};
+
+mod set_bits;
+
+use refusals::{ACCEPTED, Refusal};
+pub use set_bits::SetBits;
 
 // The codes are 1 to 13.
 pub const CODES: usize = 13;
@@ -16,22 +21,30 @@ const RELATIONS: usize = 40;
 
 pub const CLAUSES: usize = 8;
 
-// Refusals of document 01.
-pub const CLAUSE_COUNT: u32 = 4;
+/// How an interval lies to the reference on one axis.
+#[derive(Clone, Copy, Debug, PartialEq, Eq)]
+pub struct Code {
+    pub number: usize,
+    pub ghost one_of_thirteen: { IsCode number },
+}
 
-pub const CLAUSE_NOT_VALID: u32 = 5;
+/// Row set i of a query, at place i - 1: its bit j - 1 says whether configuration (i, j) is admitted.
+#[derive(Clone, Copy, Debug, PartialEq, Eq)]
+pub struct RowSets {
+    pub rows: [u16; CODES],
+}
 
-// The answer of the admitted-set call: row set i stands at place i - 1.
+/// The answer of the admitted-set call as C takes it.
 #[repr(C)]
-#[derive(Drop)]
+#[derive(Clone, Copy)]
 pub struct AdmittedSet {
     pub refusal: u32,
     pub rows: [u16; CODES],
     pub count: u32,
 }
 
-// The codes that a relation allows on y and on x: bit c - 1 stands for code c.
-#[derive(Drop)]
+/// The codes that a relation allows on y and on x: bit c - 1 stands for code c.
+#[derive(Clone, Copy, Debug, PartialEq, Eq)]
 pub struct CodeSets {
     pub rows: u16,
     pub cols: u16,
@@ -56,7 +69,7 @@ const ACROSS_TURNED: [u16; 8] = [8191, 8191, 256, 256, 4096, 7168, 8191, 8191];
 const OVERLAPPING: u16 = 2_044;
 
 // The code of a page that reaches beyond the reference on both sides, in which every code can stand.
-const AROUND: usize = 5;
+const AROUND: Code = Code { number: 5 };
 
 // By the code of a page, from 1 on: the codes of intervals inside it.
 const NODE_MASKS: [u16; CODES] = [
@@ -70,21 +83,27 @@ fn side(a: u32, b: u32) -> usize
     (a <= b) as usize + (a < b) as usize
 }
 
-// The code of [p1, p2] against the reference [q1, q2].
-pub fn axis_code(p1: u32, p2: u32, q1: u32, q2: u32) -> usize
+/// The code of [p1, p2] against the reference [q1, q2].
+pub fn axis_code(p1: u32, p2: u32, q1: u32, q2: u32) -> Code
     requires { q1 < q2 }
-    ensures { result ≡ code p1 p2 q1 q2 }
+    ensures { result.number ≡ code p1 p2 q1 q2 }
 {
     if p1 >= q2 {
-        return 1 + side(p1, q2);
+        return Code {
+            number: 1 + side(p1, q2),
+        };
     }
     if p2 <= q1 {
-        return 11 + side(p2, q1);
+        return Code {
+            number: 11 + side(p2, q1),
+        };
     }
-    3 + 3 * side(p2, q2) + side(p1, q1)
+    Code {
+        number: 3 + 3 * side(p2, q2) + side(p1, q1),
+    }
 }
 
-// The codes of relation t on y and on x; no codes for a number above 39.
+/// The codes of relation t on y and on x; no codes for a number above 39.
 pub fn relation_sets(t: usize) -> CodeSets
     ensures { result ≡ sets_of t }
 {
@@ -115,13 +134,12 @@ pub fn relation_sets(t: usize) -> CodeSets
 
 // Adds to the thirteen rows what relation t allows.
 fn add_relation(rows: &mut [u16; CODES], t: usize)
-    requires { length rows.old ≡ CODES }
     ensures { rows.new ≡ with_relation rows.old t }
 {
     let sets = relation_sets(t);
-    for h in 0..CODES {
+    for (h, row) in rows.iter_mut().enumerate() {
         if (sets.rows >> h) % 2 == 1 {
-            rows[h] |= sets.cols;
+            *row |= sets.cols;
         }
     }
 }
@@ -130,110 +148,110 @@ fn add_relation(rows: &mut [u16; CODES], t: usize)
 fn clause_rows(clause: u64) -> [u16; CODES]
     ensures { result ≡ listed (λ (h : ℕ). named_row clause (suc h)) CODES }
 {
-    let mut rows = [0u16; CODES];
-    let mut rest: u64 = clause;
-    while rest != 0 {
-        let t = u64::trailing_zeros(rest);
+    let mut rows = [0; CODES];
+    for t in SetBits::new(clause) {
         add_relation(&mut rows, t as usize);
-        rest -= 1u64 << t;
     }
     rows
 }
 
 // Cuts the thirteen rows down to what one more clause names.
 fn cut_to(rows: &mut [u16; CODES], clause: u64)
-    requires { length rows.old ≡ CODES }
     ensures { rows.new ≡ cut_to rows.old clause }
 {
     let named = clause_rows(clause);
-    for h in 0..CODES {
-        rows[h] &= named[h];
+    for (h, row) in rows.iter_mut().enumerate() {
+        *row &= named[h];
     }
 }
 
-// How many ones the thirteen rows have.
-fn ones_of(rows: [u16; CODES]) -> u32
-    ensures { result ≡ total (λ (h : ℕ). ones (get_or rows h 0)) CODES }
+// Whether a clause names no relation, or one above 39.
+fn some_bad(clauses: &[u64]) -> bool
+    ensures { result ≡ some_bad clauses.now }
 {
-    let mut count: u32 = 0;
-    for i in 0..CODES {
-        count += u16::count_ones(rows[i]);
-    }
-    count
+    clauses
+        .iter()
+        .any(|&clause| clause == 0 || clause >= 1 << RELATIONS)
 }
 
-// 0 where the clauses are a query, else 4 or 5.
+// Whether the clauses are a query.
 #[tactic(auto, unfolding(crate::specs::Query::refusal_of))]
-fn refused(clauses: &[u64]) -> u32
-    ensures { result ≡ refusal_of clauses.now }
+fn refused(clauses: &[u64]) -> Result<(), Refusal>
+    ensures { refusal_of result ≡ clauses_refusal clauses.now }
 {
-    if clauses.len() == 0 {
-        return CLAUSE_COUNT;
+    if clauses.is_empty() || clauses.len() > CLAUSES {
+        return Err(Refusal::ClauseCount);
     }
-    if clauses.len() > CLAUSES {
-        return CLAUSE_COUNT;
+    if some_bad(clauses) {
+        return Err(Refusal::ClauseNotValid);
     }
-    for c in 0..clauses.len() {
-        let clause = clauses[c];
-        if clause == 0 {
-            return CLAUSE_NOT_VALID;
-        }
-        if clause >= 1 << RELATIONS {
-            return CLAUSE_NOT_VALID;
-        }
-    }
-    0
+    Ok(())
 }
 
-// The admitted set of a query: thirteen row sets, and how many configurations they hold.
-pub fn admitted(clauses: &[u64]) -> AdmittedSet
-    ensures { result ≡ admitted_of clauses.now }
+/// The admitted set of a query.
+pub fn admitted(clauses: &[u64]) -> Result<RowSets, Refusal>
+    ensures { admitted_set_of result ≡ admitted_of clauses.now }
 {
-    let refusal = refused(clauses);
-    if refusal != 0 {
-        return AdmittedSet {
-            refusal,
-            rows: [0u16; CODES],
-            count: 0,
-        };
-    }
+    refused(clauses)?;
     let mut rows = [EVERY; CODES];
-    for c in 0..clauses.len() {
-        cut_to(&mut rows, clauses[c]);
+    for &clause in clauses {
+        cut_to(&mut rows, clause);
     }
-    let count = ones_of(rows);
-    AdmittedSet {
-        refusal: 0,
-        rows,
-        count,
+    Ok(RowSets { rows })
+}
+
+impl RowSets {
+    /// Whether configuration (i, j) is admitted.
+    #[tactic(auto, unfolding(crate::specs::Steps::rows_have, crate::specs::Sets::bit))]
+    pub fn has(&self, i: Code, j: Code) -> bool
+        ensures { result ≡ rows_have self.now.rows i.number j.number }
+    {
+        (self.rows[i.number - 1] >> (j.number - 1)) % 2 == 1
+    }
+
+    /// How many configurations are admitted.
+    pub fn count(&self) -> u32
+        ensures { result ≡ count_of self.now.rows }
+    {
+        self.rows.iter().map(|row| row.count_ones()).sum()
     }
 }
 
-// The table of page codes, made once for each query: read by a code in the walk, a constant would be copied each time.
-pub fn node_masks() -> [u16; CODES]
-    ensures { result ≡ node_masks }
-{
-    NODE_MASKS
+impl From<Result<RowSets, Refusal>> for AdmittedSet {
+    ghost from_gives = { λ answer set. set ≡ admitted_set_of answer };
+
+    fn from(answer: Result<RowSets, Refusal>) -> AdmittedSet {
+        match answer {
+            Ok(set) => AdmittedSet {
+                refusal: ACCEPTED,
+                rows: set.rows,
+                count: set.count(),
+            },
+            Err(refusal) => AdmittedSet {
+                refusal: refusal.number(),
+                rows: [0; CODES],
+                count: 0,
+            },
+        }
+    }
 }
 
-// The row sets joined for each code of a page, made once for each query: the page test then looks at one row. Written out
-// by the thirteen sets, since a loop over their masks took longer than the rest of a query's preparation.
-pub fn joined(rows: &[u16; CODES]) -> [u16; CODES]
+/// What can stand inside a page, made once for each query: the page test then looks at one row and one mask.
+#[derive(Drop)]
+pub struct PageTest {
+    /// By the code of a page on y: the row sets joined of the codes that can stand inside it.
+    pub below: [u16; CODES],
+    /// By the code of a page on x: the codes that can stand inside it. A constant would be copied each time a walk reads it.
+    pub masks: [u16; CODES],
+    pub ghost tabled: { masks ≡ node_masks },
+}
+
+// The row sets joined for each code of a page. Written out by the thirteen sets, since a loop over their masks took longer than
+// the rest of a query's preparation.
+fn joined(rows: &[u16; CODES]) -> [u16; CODES]
     ensures { result ≡ joined_of rows.now }
 {
-    let r1 = rows[0];
-    let r2 = rows[1];
-    let r3 = rows[2];
-    let r4 = rows[3];
-    let r5 = rows[4];
-    let r6 = rows[5];
-    let r7 = rows[6];
-    let r8 = rows[7];
-    let r9 = rows[8];
-    let r10 = rows[9];
-    let r11 = rows[10];
-    let r12 = rows[11];
-    let r13 = rows[12];
+    let [r1, r2, r3, r4, r5, r6, r7, r8, r9, r10, r11, r12, r13] = *rows;
     [
         r1,
         r1 | r2,
@@ -251,75 +269,63 @@ pub fn joined(rows: &[u16; CODES]) -> [u16; CODES]
     ]
 }
 
-// Whether a page of codes cy and cx can hold an admitted configuration, by the joined rows.
-pub fn page_test(below: &[u16; CODES], masks: &[u16; CODES], cy: usize, cx: usize) -> bool
-    requires { IsCode cy × IsCode cx × (masks.now ≡ node_masks) }
-    ensures { result ≡ page_test below.now cy cx }
-{
-    below[cy - 1] & masks[cx - 1] != 0
-}
-
-// Whether something admitted can stand below a page of code c on one axis, whatever its code on the other.
-fn is_open(below: &[u16; CODES], masks: &[u16; CODES], c: usize) -> bool
-    requires { IsCode c × (masks.now ≡ node_masks) }
-    ensures { result ≡ open_at below.now c }
-{
-    if page_test(below, masks, c, AROUND) {
-        return true;
+impl PageTest {
+    #[tactic(auto, using(crate::proofs::Quarter::masks_are))]
+    pub fn new(set: &RowSets) -> PageTest
+        ensures { result.below ≡ joined_of set.now.rows }
+    {
+        PageTest {
+            below: joined(&set.rows),
+            masks: NODE_MASKS,
+        }
     }
-    page_test(below, masks, AROUND, c)
-}
 
-// Whether nothing beyond the reference can be admitted. Most queries ask for contact, and a walk then passes by what lies
-// beyond without its codes.
-pub fn is_near(below: &[u16; CODES], masks: &[u16; CODES]) -> bool
-    requires { masks.now ≡ node_masks }
-    ensures { result ≡ near_by below.now }
-{
-    if is_open(below, masks, 1) {
-        return false;
+    /// Whether a page of codes cy and cx can hold an admitted configuration.
+    #[tactic(auto, using(crate::proofs::Pages::tested))]
+    pub fn may_hold(&self, cy: Code, cx: Code) -> bool
+        ensures { result ≡ page_test self.now.below cy.number cx.number }
+    {
+        self.below[cy.number - 1] & self.masks[cx.number - 1] != 0
     }
-    if is_open(below, masks, 2) {
-        return false;
-    }
-    !is_open(below, masks, CODES)
-}
 
-// Whether nothing is admitted but with both codes in 3 to 11: where more than edges meet.
-pub fn is_inner(below: &[u16; CODES], masks: &[u16; CODES]) -> bool
-    requires { masks.now ≡ node_masks }
-    ensures { result ≡ inner_by below.now }
-{
-    if !is_near(below, masks) {
-        return false;
+    // Whether something admitted can stand below a page of code c on one axis, whatever its code on the other.
+    #[tactic(auto, unfolding(crate::specs::Steps::open_at))]
+    fn is_open(&self, c: Code) -> bool
+        ensures { result ≡ open_at self.now.below c.number }
+    {
+        self.may_hold(c, AROUND) || self.may_hold(AROUND, c)
     }
-    !is_open(below, masks, 12)
-}
 
-// Whether the admitted set is that of overlap, the 81 configurations with both codes in 3 to 11: a walk then needs no codes.
-pub fn is_overlap(rows: &[u16; CODES], below: &[u16; CODES], masks: &[u16; CODES]) -> bool
-    requires { masks.now ≡ node_masks }
-    ensures { result ≡ overlap_by rows.now below.now }
-{
-    if !is_inner(below, masks) {
-        return false;
+    /// Whether nothing beyond the reference can be admitted. Most queries ask for contact, and a walk then passes by what lies
+    /// beyond without its codes.
+    #[tactic(auto, unfolding(crate::specs::Steps::near_by))]
+    pub fn is_near(&self) -> bool
+        ensures { result ≡ near_by self.now.below }
+    {
+        !self.is_open(Code { number: 1 })
+            && !self.is_open(Code { number: 2 })
+            && !self.is_open(Code { number: CODES })
     }
-    let shared = rows[2]
-        & rows[3]
-        & rows[4]
-        & rows[5]
-        & rows[6]
-        & rows[7]
-        & rows[8]
-        & rows[9]
-        & rows[10];
-    shared & OVERLAPPING == OVERLAPPING
-}
 
-// Whether configuration (i, j) is admitted, by the row sets.
-pub fn leaf_test(rows: &[u16; CODES], i: usize, j: usize) -> bool
-    requires { IsCode i × IsCode j }
-    ensures { result ≡ rows_have rows.now i j }
-{
-    (rows[i - 1] >> (j - 1)) % 2 == 1
+    /// Whether nothing is admitted but with both codes in 3 to 11: where more than edges meet.
+    #[tactic(auto, unfolding(crate::specs::Steps::inner_by))]
+    pub fn is_inner(&self) -> bool
+        ensures { result ≡ inner_by self.now.below }
+    {
+        self.is_near() && !self.is_open(Code { number: 12 })
+    }
+
+    /// Whether the admitted set is that of overlap, the 81 configurations with both codes in 3 to 11: a walk then needs no codes.
+    #[tactic(auto, unfolding(crate::specs::Steps::overlap_by))]
+    pub fn is_overlap(&self, set: &RowSets) -> bool
+        ensures { result ≡ overlap_by set.now.rows self.now.below }
+    {
+        if !self.is_inner() {
+            return false;
+        }
+        let shared = set.rows[3..=10]
+            .iter()
+            .fold(set.rows[2], |shared, row| shared & row);
+        shared & OVERLAPPING == OVERLAPPING
+    }
 }

@@ -1,11 +1,8 @@
+-- The rows are the row sets of the clauses so far.
 use mathlib.Core.Path.{◌≡◌}
-use Prim.Native.Nat.{◌-◌, ◌≤◌}
-use lib.ListN.{length, take}
+use lib.ListN.{take}
 use Rattle.relations.specs.Query.{row_sets}
 use Rattle.relations.proofs.admitted.Given as goal
 
-abbrev pub invariant-loop-c : goal.invariant-loop-c
-invariant-loop-c l = (l.c ≤ length l.clauses) × (l.rows ≡ row_sets (take l.c l.clauses))
-
-abbrev pub decreases-loop-c : goal.decreases-loop-c
-decreases-loop-c l = length l.clauses - l.c
+abbrev pub invariant-loop-clause : goal.invariant-loop-clause
+invariant-loop-clause l = l.rows ≡ row_sets (take l.clause-index l.clauses)

@@ -1,42 +1,21 @@
--- The relations of the rest, added to the rows, make the rows of the clause.
-use Rattle.std.proofs.Common.{rules}
-use mathlib.Core.Path.{ap, ◌∙◌}
-use native.Mathlib.Omega.{arith}
-use lib.Count.{trailing_le}
-use lib.ListN.{length}
-use Rattle.relations.proofs.Lowest.{lowest}
-use Rattle.relations.proofs.Rows.{all-gathered, gather-lowest, gather-end, with-length}
+-- The relations that are left, added to the rows, make the rows of the clause.
+use mathlib.Core.Path.{sym, ap, ◌∙◌}
+use mathlib.Core.List.{List}
+use Prim.Native.Nat.{ℕ}
+use lib.ListN.{replicate}
+use Rattle.relations.specs.Axis.{CODES}
+use Rattle.relations.proofs.Rows.{gathered, all-gathered}
 use Rattle.relations.proofs.clause_rows.Goals as goal
 
-pub loop-rest-init : goal.loop-rest-init
-loop-rest-init c = (search rules, search rules, all-gathered _)
+pub loop-t-init : goal.loop-t-init
+loop-t-init c =
+    ap (gathered (replicate CODES 0)) (c.into_iter-t-iterator.ensures.into_iter_gives ∙ c.new-t-items.ensures) ∙ all-gathered _
 
-pub overflow_cast-t : goal.overflow_cast-t
-overflow_cast-t c = omega (arith, trailing_le 64 c.loop-rest.rest)
-
-pub add_relation-requires : goal.add_relation-requires
-add_relation-requires c = c.loop-rest.invariant.1
-
-pub overflow_cast-rest : goal.overflow_cast-rest
-overflow_cast-rest c = omega (arith, trailing_le 64 c.loop-rest.rest)
-
-pub overflow_shl-rest : goal.overflow_shl-rest
-overflow_shl-rest c = (lowest 64 _ c.loop-rest-test.true c.loop-rest.invariant.0).place
-
-pub overflow_sub-rest : goal.overflow_sub-rest
-overflow_sub-rest c = (lowest 64 _ c.loop-rest-test.true c.loop-rest.invariant.0).small
-
-pub loop-rest-smaller : goal.loop-rest-smaller
-loop-rest-smaller c = (lowest 64 _ c.loop-rest-test.true c.loop-rest.invariant.0).less
-
-pub loop-rest-preserved : goal.loop-rest-preserved
-loop-rest-preserved c =
-    let l = c.loop-rest in
-    let e = c.add_relation.ensures in (
-      omega arith,
-      ap length e ∙ with-length _ _,
-      gather-lowest _ _ _ c.loop-rest-test.true l.invariant.0 e ∙ l.invariant.2,
-    )
+pub loop-t-preserved : goal.loop-t-preserved
+unfolding gathered
+loop-t-preserved c =
+    ap (λ (rows : List ℕ). gathered rows c.next.new.self) c.add_relation.ensures ∙ ap (gathered _) (sym c.in-Some.ensures.steps) ∙ c.loop-t.invariant
 
 pub returns : goal.returns
-returns c = gather-end _ _ c.loop-rest-test.false ∙ c.loop-rest.invariant.2
+unfolding gathered
+returns c = ap (gathered _) (sym c.in-None.ensures.steps.0) ∙ c.loop-t.invariant

@@ -1,9 +1,0 @@
--- The test of a bit is the definition.
-use mathlib.Core.Path.{refl}
-use Rattle.relations.specs.Sets.{bit}
-use Rattle.relations.specs.Steps.{rows_have}
-use Rattle.relations.proofs.leaf_test.Goals as goal
-
-pub returns : goal.returns
-unfolding rows_have bit
-returns c = refl
