@@ -1,10 +1,12 @@
--- The lowest one of a word, and what is left without it.
-use mathlib.Core.Bool.{true, false}
-use mathlib.Core.List.{[], ◌∷◌}
+-- The ones of a word: where they lie, the lowest, and what is left without it.
+use mathlib.Core.Bool.{Bool, true, false, cond}
+use mathlib.Core.List.{List, [], ◌∷◌, ◌++◌, map}
 use mathlib.Core.Logic.{◌≢◌}
-use mathlib.Core.Path.{◌≡◌, refl, ◌∙◌}
+use mathlib.Core.Path.{◌≡◌, refl, sym, ap, ◌∙◌}
+use Rattle.std.specs.List.{All}
+use Rattle.std.proofs.lemmas.List.Elements.{All-nil, All-cons}
 use Prim.Native.Nat.{ℕ, zero, suc, ◌+◌, ◌-◌, ◌*◌, ◌/◌, ◌%◌, ◌^◌, ◌≤◌, ◌<◌}
-use native.Mathlib.Nat.{one-mul, pow-suc, mod-eq_of_lt}
+use native.Mathlib.Nat.{add-suc, one-mul, pow-suc, mod-eq_of_lt}
 use native.Mathlib.Omega.{arith}
 use lib.Arith.{lt-one}
 use lib.Pow.{pow-lt, pow_pos}
@@ -26,6 +28,36 @@ pub ones_none : (b k : ℕ) → ones_from b k 0 ≡ []
 unfolding ones_from
 ones_none b zero = refl
 ones_none b (suc k) = rw (bit-none 0) (ones_none (suc b) k)
+
+-- the places lie in the k that are looked at
+pub ones_below : (b k top n : ℕ) → b + k ≤ top → All (λ t. t < top) (ones_from b k n)
+unfolding ones_from
+ones_below b zero top n l = All-nil _
+ones_below b (suc k) top n l = go (bit n 0) (ones_below (suc b) k top (n / 2) (omega arith))
+  where
+    go : (c : Bool) → All (λ t. t < top) (ones_from (suc b) k (n / 2)) → All (λ t. t < top) (cond c (b ∷ []) [] ++ ones_from (suc b) k (n / 2))
+    go true rest = All-cons (λ t. t < top) b _ (omega arith) rest
+    go false rest = rest
+
+-- counted from b + c they are b more than counted from c
+pub ones_moved : (b c k n : ℕ) → ones_from (b + c) k n ≡ map (λ t. b + t) (ones_from c k n)
+unfolding ones_from
+ones_moved b c zero n = refl
+ones_moved b c (suc k) n =
+    go (bit n 0) (ap (λ (m : ℕ). ones_from m k (n / 2)) (sym (add-suc b c)) ∙ ones_moved b (suc c) k (n / 2))
+  where
+    go : (d : Bool) → ones_from (suc (b + c)) k (n / 2) ≡ map (λ t. b + t) (ones_from (suc c) k (n / 2))
+        → cond d ((b + c) ∷ []) [] ++ ones_from (suc (b + c)) k (n / 2) ≡ map (λ t. b + t) (cond d (c ∷ []) [] ++ ones_from (suc c) k (n / 2))
+    go true rest = ap (λ (ts : List ℕ). (b + c) ∷ ts) rest
+    go false rest = rest
+
+-- a word of j bits has none from place j on
+pub ones_short : (b j k n : ℕ) → n < 2 ^ j → ones_from b (j + k) n ≡ ones_from b j n
+unfolding ones_from
+ones_short b zero k n l = ap (ones_from b (0 + k)) (lt-one l) ∙ ones_none b (0 + k)
+ones_short b (suc j) k n l =
+    let e : suc j + k ≡ suc (j + k) = omega arith in
+    ap (λ (m : ℕ). ones_from b m n) e ∙ ap (λ (ts : List ℕ). cond (bit n 0) (b ∷ []) [] ++ ts) (ones_short (suc b) j k (n / 2) (omega (arith, pow-suc 2 j)))
 
 abbrev Lowest-at : ℕ → ℕ → ℕ → Type 0
 Lowest-at k n t = (t < k) × (2 ^ t ≤ n) × ((b : ℕ) → ones_from b k n ≡ (b + t) ∷ ones_from b k (n - 2 ^ t))
