@@ -1,224 +1,186 @@
 // Runs the relation layer on the examples of document 01 and on others, and prints what it answers.
 #![tactic(auto)]
 
-use relations::CODES;
+use relations::{AdmittedSet, CODES, Code, PageTest, RowSets};
 use std::io;
 
-const RELATIONS: usize = 40;
+const RELATIONS: u32 = 40;
 
-const CONFIGURATIONS: usize = 169;
+// Rectangles x1, y1, x2, y2.
+const RECTANGLES: [[u32; 4]; 13] = [
+    [250, 250, 300, 300],
+    [200, 100, 300, 200],
+    [100, 100, 200, 200],
+    [50, 50, 250, 250],
+    [120, 150, 180, 250],
+    [100, 120, 250, 180],
+    [100, 100, 200, 250],
+    [100, 100, 200, 150],
+    [0, 1, 50, 99],
+    [0, 50, 100, 100],
+    [50, 0, 150, 200],
+    [150, 150, 200, 200],
+    [150, 200, 250, 300],
+];
 
-fn text(rt: &impl Print, t: &[u8]) -> io::Result<()> {
-    rt.write_all(t)
+// The codes of a rectangle on y and on x against the reference (100, 100, 200, 200).
+fn codes([x1, y1, x2, y2]: [u32; 4]) -> (Code, Code) {
+    (
+        relations::axis_code(y1, y2, 100, 200),
+        relations::axis_code(x1, x2, 100, 200),
+    )
 }
 
-fn number(rt: &impl Print, n: u64) -> io::Result<()> {
-    text(rt, b" ")?;
-    rt.print(n)
-}
-
-fn size(rt: &impl Print, n: usize) -> io::Result<()> {
-    number(rt, n as u64)
-}
-
-// The configuration (i, j) of a rectangle against the reference (100, 100, 200, 200).
-fn configuration(rt: &impl Print, x1: u32, y1: u32, x2: u32, y2: u32) -> io::Result<()> {
-    text(rt, b"configuration")?;
-    number(rt, x1 as u64)?;
-    number(rt, y1 as u64)?;
-    number(rt, x2 as u64)?;
-    number(rt, y2 as u64)?;
-    text(rt, b":")?;
-    size(rt, relations::axis_code(y1, y2, 100, 200))?;
-    size(rt, relations::axis_code(x1, x2, 100, 200))?;
-    text(rt, b"\n")
+fn configurations(rt: &impl Print) -> io::Result<()> {
+    for rectangle in RECTANGLES {
+        let [x1, y1, x2, y2] = rectangle;
+        let (i, j) = codes(rectangle);
+        println!(rt;
+            "configuration {x1} {y1} {x2} {y2}: {} {}",
+            i.number, j.number
+        )?;
+    }
+    Ok(())
 }
 
 fn rows_of(rt: &impl Print, rows: [u16; CODES]) -> io::Result<()> {
-    for h in 0..CODES {
-        number(rt, rows[h] as u64)?;
+    for row in rows {
+        print!(rt; " {row}")?;
     }
-    Ok(())
+    println!(rt)
 }
 
 // Refusal, count and row sets of a query.
-fn query(rt: &impl Print, name: &[u8], clauses: &[u64]) -> io::Result<()> {
-    let a = relations::admitted(clauses);
-    text(rt, name)?;
-    text(rt, b":")?;
-    number(rt, a.refusal as u64)?;
-    number(rt, a.count as u64)?;
-    let rows = a.rows;
-    rows_of(rt, rows)?;
-    text(rt, b"\n")
+fn query(rt: &impl Print, name: &str, clauses: &[u64]) -> io::Result<()> {
+    let set = AdmittedSet::from(relations::admitted(clauses));
+    print!(rt; "{name}: {} {}", set.refusal, set.count)?;
+    rows_of(rt, set.rows)
 }
 
-// How many of the 169 configurations the leaf test takes.
-fn leaves(rows: &[u16; CODES]) -> usize {
-    let mut n: usize = 0;
-    for p in 0..CONFIGURATIONS {
-        if relations::leaf_test(rows, p / CODES + 1, p % CODES + 1) {
-            n += 1;
+// How many of the 169 pairs of codes pass.
+fn passing<F: Fn(Code, Code) -> bool>(test: F) -> usize
+    requires { F.IsAlwaysCallable test }
+{
+    let mut count = 0;
+    for place in 0..CODES * CODES {
+        let first = Code {
+            number: place / CODES + 1,
+        };
+        let second = Code {
+            number: place % CODES + 1,
+        };
+        if test(first, second) {
+            count += 1;
         }
     }
-    n
+    count
 }
 
-// How many of the 169 pairs of codes of a page the page test takes.
-fn pages(below: &[u16; CODES]) -> usize {
-    let masks = relations::node_masks();
-    let mut n: usize = 0;
-    for p in 0..CONFIGURATIONS {
-        if relations::page_test(below, &masks, p / CODES + 1, p % CODES + 1) {
-            n += 1;
+// The size of relation t, which the clause names alone: by the count, by the leaf test, and the pages that it opens.
+fn relation(rt: &impl Print, t: u32, clause: u64) -> io::Result<()> {
+    match relations::admitted(&[clause]) {
+        Ok(set) => {
+            let test = PageTest::new(&set);
+            let leaves = passing(|i, j| set.has(i, j));
+            let pages = passing(|cy, cx| test.may_hold(cy, cx));
+            println!(rt; "relation {t}: {} {leaves} {pages}", set.count())
         }
+        Err(refusal) => println!(rt; "relation {t}: {refusal}"),
     }
-    n
-}
-
-// The size of a relation by the count, by the leaf test, and the pages that it opens.
-fn relation(rt: &impl Print, t: usize) -> io::Result<()> {
-    if t < RELATIONS {
-        let a = relations::admitted(&[1u64 << t]);
-        let below = relations::joined(&a.rows);
-        text(rt, b"relation")?;
-        size(rt, t)?;
-        text(rt, b":")?;
-        number(rt, a.count as u64)?;
-        size(rt, leaves(&a.rows))?;
-        size(rt, pages(&below))?;
-        text(rt, b"\n")?;
-    }
-    Ok(())
 }
 
 fn every_relation(rt: &impl Print) -> io::Result<()> {
     for t in 0..RELATIONS {
-        relation(rt, t)?;
+        relation(rt, t, 1 << t)?;
     }
     Ok(())
 }
 
 // The page test for one page, whose codes the rectangle gives.
-fn page(
-    rt: &impl Print,
-    name: &[u8],
-    clauses: &[u64],
-    x1: u32,
-    y1: u32,
-    x2: u32,
-    y2: u32,
-) -> io::Result<()> {
-    let a = relations::admitted(clauses);
-    let below = relations::joined(&a.rows);
-    let masks = relations::node_masks();
-    let cy = relations::axis_code(y1, y2, 100, 200);
-    let cx = relations::axis_code(x1, x2, 100, 200);
-    text(rt, name)?;
-    text(rt, b":")?;
-    size(rt, cy)?;
-    size(rt, cx)?;
-    size(rt, relations::page_test(&below, &masks, cy, cx) as usize)?;
-    text(rt, b"\n")
+fn page(rt: &impl Print, name: &str, clauses: &[u64], rectangle: [u32; 4]) -> io::Result<()> {
+    let (cy, cx) = codes(rectangle);
+    match relations::admitted(clauses) {
+        Ok(set) => {
+            let holds = PageTest::new(&set).may_hold(cy, cx);
+            println!(rt; "{name}: {} {} {}", cy.number, cx.number, holds as u32)
+        }
+        Err(refusal) => println!(rt; "{name}: {refusal}"),
+    }
 }
 
 fn refusals(rt: &impl Print) -> io::Result<()> {
-    query(rt, b"no clause", &[])?;
-    query(rt, b"eight clauses", &[1, 1, 1, 1, 1, 1, 1, 4])?;
-    query(rt, b"nine clauses", &[1, 1, 1, 1, 1, 1, 1, 1, 1])?;
-    query(rt, b"nine clauses, all zero", &[0, 0, 0, 0, 0, 0, 0, 0, 0])?;
-    let many = [1u64; 5000];
-    query(rt, b"5000 clauses", &many)?;
-    query(rt, b"zero clause", &[0])?;
-    query(rt, b"zero clause last", &[4, 0])?;
-    query(rt, b"bit 39", &[1 << 39])?;
-    query(rt, b"bit 40", &[1 << 40])?;
-    query(rt, b"bit 63", &[1 << 63])?;
-    query(rt, b"bit 40 and bit 0", &[1, (1 << 40) + 1])
+    query(rt, "no clause", &[])?;
+    query(rt, "eight clauses", &[1, 1, 1, 1, 1, 1, 1, 4])?;
+    query(rt, "nine clauses", &[1; 9])?;
+    query(rt, "nine clauses, all zero", &[0; 9])?;
+    query(rt, "5000 clauses", &[1; 5000])?;
+    query(rt, "zero clause", &[0])?;
+    query(rt, "zero clause last", &[4, 0])?;
+    query(rt, "bit 39", &[1 << 39])?;
+    query(rt, "bit 40", &[1 << 40])?;
+    query(rt, "bit 63", &[1 << 63])?;
+    query(rt, "bit 40 and bit 0", &[1, (1 << 40) + 1])
 }
 
 fn queries(rt: &impl Print) -> io::Result<()> {
-    query(rt, b"overlap and north", &[1 << 2, 1 << 15])?;
-    query(rt, b"weak corner north", &[1 << 13])?;
-    query(rt, b"equal and contains", &[1 << 5, 1 << 7])?;
-    query(rt, b"equal or contains", &[(1 << 5) + (1 << 7)])?;
-    query(rt, b"disjoint", &[1])?;
-    query(rt, b"meet", &[2])?;
-    query(rt, b"overlap", &[4])?;
-    query(rt, b"covered_by", &[8])?;
-    query(rt, b"covers", &[64])?;
-    query(rt, b"every relation", &[(1 << 40) - 1])?;
+    query(rt, "overlap and north", &[1 << 2, 1 << 15])?;
+    query(rt, "weak corner north", &[1 << 13])?;
+    query(rt, "equal and contains", &[1 << 5, 1 << 7])?;
+    query(rt, "equal or contains", &[(1 << 5) + (1 << 7)])?;
+    query(rt, "disjoint", &[1])?;
+    query(rt, "meet", &[2])?;
+    query(rt, "overlap", &[4])?;
+    query(rt, "covered_by", &[8])?;
+    query(rt, "covers", &[64])?;
+    query(rt, "every relation", &[(1 << 40) - 1])?;
     query(
         rt,
-        b"overlap, and north or east",
+        "overlap, and north or east",
         &[4, (1 << 15) + (1 << 23)],
     )
 }
 
-fn pages_shown(rt: &impl Print) -> io::Result<()> {
+fn pages(rt: &impl Print) -> io::Result<()> {
+    let equal_or_corner = [(1 << 5) + (1 << 12)];
     page(
         rt,
-        b"equal and contains",
+        "equal and contains",
         &[1 << 5, 1 << 7],
-        0,
-        0,
-        1000,
-        1000,
+        [0, 0, 1000, 1000],
     )?;
     page(
         rt,
-        b"equal or strong corner",
-        &[(1 << 5) + (1 << 12)],
-        100,
-        250,
-        200,
-        300,
+        "equal or strong corner",
+        &equal_or_corner,
+        [100, 250, 200, 300],
     )?;
     page(
         rt,
-        b"equal or strong corner",
-        &[(1 << 5) + (1 << 12)],
-        100,
-        100,
-        200,
-        200,
+        "equal or strong corner",
+        &equal_or_corner,
+        [100, 100, 200, 200],
     )?;
     page(
         rt,
-        b"equal or strong corner",
-        &[(1 << 5) + (1 << 12)],
-        250,
-        250,
-        300,
-        300,
+        "equal or strong corner",
+        &equal_or_corner,
+        [250, 250, 300, 300],
     )?;
-    page(rt, b"inside", &[1 << 4], 150, 150, 151, 151)?;
-    page(rt, b"inside", &[1 << 4], 100, 100, 101, 101)?;
-    page(rt, b"inside", &[1 << 4], 0, 0, 100, 100)
+    page(rt, "inside", &[1 << 4], [150, 150, 151, 151])?;
+    page(rt, "inside", &[1 << 4], [100, 100, 101, 101])?;
+    page(rt, "inside", &[1 << 4], [0, 0, 100, 100])
 }
 
 fn main(rt: HostRuntime) -> io::Result<()> {
-    configuration(&rt, 250, 250, 300, 300)?;
-    configuration(&rt, 200, 100, 300, 200)?;
-    configuration(&rt, 100, 100, 200, 200)?;
-    configuration(&rt, 50, 50, 250, 250)?;
-    configuration(&rt, 120, 150, 180, 250)?;
-    configuration(&rt, 100, 120, 250, 180)?;
-    configuration(&rt, 100, 100, 200, 250)?;
-    configuration(&rt, 100, 100, 200, 150)?;
-    configuration(&rt, 0, 1, 50, 99)?;
-    configuration(&rt, 0, 50, 100, 100)?;
-    configuration(&rt, 50, 0, 150, 200)?;
-    configuration(&rt, 150, 150, 200, 200)?;
-    configuration(&rt, 150, 200, 250, 300)?;
+    configurations(&rt)?;
     queries(&rt)?;
     refusals(&rt)?;
     every_relation(&rt)?;
-    pages_shown(&rt)?;
-    text(&rt, b"node sets:")?;
-    rows_of(
-        &rt,
-        relations::joined(&[1, 2, 4, 8, 16, 32, 64, 128, 256, 512, 1024, 2048, 4096]),
-    )?;
-    text(&rt, b"\n")
+    pages(&rt)?;
+    // Row set i has code i alone, so the joined rows are the thirteen sets.
+    let own = RowSets {
+        rows: [1, 2, 4, 8, 16, 32, 64, 128, 256, 512, 1024, 2048, 4096],
+    };
+    print!(rt; "node sets:")?;
+    rows_of(&rt, PageTest::new(&own).below)
 }
