@@ -13,8 +13,9 @@ use Rattle.pages.specs.Sound.{zeros, sound}
 use Rattle.pages.proofs.Lists.{true-T, T_true, false-T, T_false}
 use Rattle.pages.proofs.Below.{below-same}
 use Rattle.pages.proofs.Whole.{sound-in}
-use Rattle.soundness.specs.declared.Visit.{Visit}
-use Rattle.soundness.specs.Steps.{total_of, visits, stores, Visited, root_fewest, Rooted}
+use Rattle.std.specs.Prelude.{Option, is_some}
+use Rattle.pages.specs.declared.Rect.{Rect}
+use Rattle.soundness.specs.Steps.{total_of, visits, stores, Visited, Complete, root_fewest, Rooted}
 use Rattle.soundness.proofs.Words.{pages-word, root-word, pieces-word, level-word}
 use Rattle.soundness.proofs.Counts.{all_one}
 use Rattle.soundness.proofs.Trees.{tree-sound}
@@ -28,20 +29,24 @@ front-part w n a l k =
     let e : drop a w ≡ drop a x ++ drop n w = ap (drop a) (sym (take-append-drop n w)) ∙ drop-append-le a x (drop n w) (omega arith) in
     ap (take (n - a)) e ∙ take_at (drop a x) (drop n w) (n - a) (omega (arith, length-drop a x))
 
-module _ (w : List ℕ) (k root h : ℕ) (R : Rooted w k root h) (s₀ n₀ s₁ n₁ : List ℕ) (v : Visit)
+module _ (w : List ℕ) (k root h : ℕ) (R : Rooted w k root h) (s₀ n₀ s₁ n₁ : List ℕ) (v : Option Rect)
     (sz : (q : ℕ) → get_or s₀ q 0 ≡ 0) (nz : (c : ℕ) → get_or n₀ c 0 ≡ 0) (m : ℕ) (me : m ≡ root_fewest h) (y : Visited w h m root s₀ n₀ v s₁ n₁) where
   x : Visited w h (root_fewest h) root s₀ n₀ v s₁ n₁
   x = subst (λ a. Visited w h a root s₀ n₀ v s₁ n₁) me y
 
-  pub walk-refuses : v.good ≡ false → false ≡ sound w
-  walk-refuses f = sym (T_false (sound w) (λ s. x.no f (root-tree w k root h R s) (room-pages w k root h R s s₀ sz) (room-pieces w k root h R s n₀ nz)))
+  pub walk_refuses : is_some v ≡ false → false ≡ sound w
+  walk_refuses f = sym (T_false (sound w) (λ s. x.no f (root-tree w k root h R s) (room-pages w k root h R s s₀ sz) (room-pieces w k root h R s n₀ nz)))
 
-  module _ (good : v.good ≡ true) where
-    pub pages-refuse : (total_of s₁ k ≡ k → ⊥) → false ≡ sound w
-    pages-refuse f = sym (T_false (sound w) (λ s. f (pages-total w k root h R s s₀ sz s₁ (x.yes good).1)))
+  -- the walk has the table and its count of pages to the end
+  module _ (good : is_some v ≡ true) (w' : List ℕ) (same : w' ≡ w) (k' : ℕ) (count : k' ≡ length (table_in w').pages) where
+    k-same : k' ≡ k
+    k-same = count ∙ (ap (λ a. length (table_in a).pages) same ∙ sym R.count)
 
-    pub pieces-refuse : (total_of n₁ PIECES ≡ get_or w 2 0 → ⊥) → false ≡ sound w
-    pieces-refuse f = sym (T_false (sound w) (λ s. f (pieces-total w k root h R s n₀ nz n₁ (x.yes good).2)))
+    pub marks_refuse : (Complete w' k' s₁ n₁ → ⊥) → false ≡ sound w
+    marks_refuse f = sym (T_false (sound w) (λ s. f (
+      subst (λ a. total_of s₁ a ≡ a) (sym k-same) (pages-total w k root h R s s₀ sz s₁ (x.yes good).1),
+      pieces-total w k root h R s n₀ nz n₁ (x.yes good).2 ∙ ap (λ a. get_or a 2 0) (sym same),
+    )))
 
     mark-few : (q : ℕ) → q < k → get_or s₁ q 0 ≤ 1
     mark-few q l = omega (arith, sz q, (x.yes good).1 q (omega (arith, R.most)))
@@ -59,26 +64,26 @@ module _ (w : List ℕ) (k root h : ℕ) (R : Rooted w k root h) (s₀ n₀ s₁
     stores-few : (c : ℕ) → c < PIECES → stores w h root c ≤ 1
     stores-few c l = omega (arith, nz c, (x.yes good).2 c l)
 
-    pub rest-decides : total_of s₁ k ≡ k → total_of n₁ PIECES ≡ get_or w 2 0 → (b : Bool)
+    pub rest_decides : Complete w' k' s₁ n₁ → (b : Bool)
         → b ≡ zeros (take (TABLE_WORDS - (TABLE_HEAD + PAGE_WORDS * k)) (drop (TABLE_HEAD + PAGE_WORDS * k) w)) → b ≡ sound w
     unfolding total_of
-    rest-decides ts tn b e = go b (e ∙ ap zeros (front-part w TABLE_WORDS (TABLE_HEAD + PAGE_WORDS * k) R.long fits))
+    rest_decides t b e = go b (e ∙ ap zeros (front-part w TABLE_WORDS (TABLE_HEAD + PAGE_WORDS * k) R.long fits))
       where
         fits : TABLE_HEAD + PAGE_WORDS * k ≤ TABLE_WORDS
         fits = omega (arith, R.most)
 
         go : (b : Bool) → b ≡ zeros (drop (TABLE_HEAD + PAGE_WORDS * k) (take TABLE_WORDS w)) → b ≡ sound w
-        go true z = sym (T_true (sound w) (tree-sound w k root h R (x.yes good).0 (once ts) stores-few
-            (pieces-word w R.long ∙ (sym tn ∙ below-same PIECES (λ c. get_or n₁ c 0) (stores w h root) stores-mark)) (true-T _ (sym z))))
+        go true z = sym (T_true (sound w) (tree-sound w k root h R (x.yes good).0 (once (subst (λ a. total_of s₁ a ≡ a) k-same t.0)) stores-few
+            (pieces-word w R.long ∙ (ap (λ a. get_or a 2 0) (sym same) ∙ (sym t.1 ∙ below-same PIECES (λ c. get_or n₁ c 0) (stores w h root) stores-mark))) (true-T _ (sym z))))
         go false z = sym (T_false (sound w) (λ s. false-T _ (sym z) (subst (λ n. T (zeros (drop (TABLE_HEAD + PAGE_WORDS * n) (take TABLE_WORDS w)))) (sym R.count) (rest-zero w R.long s))))
 
 -- the tests before the walk
 module _ (w : List ℕ) (long : TABLE_WORDS ≤ length w) where
-  pub count-refuses : PAGES < get_or w 0 0 → false ≡ sound w
-  count-refuses f = sym (T_false (sound w) (λ s. omega (arith, f, pages-word w long, (sound-in w s).most)))
+  pub count_refuses : PAGES < get_or w 0 0 → false ≡ sound w
+  count_refuses f = sym (T_false (sound w) (λ s. omega (arith, f, pages-word w long, (sound-in w s).most)))
 
-  pub root-refuses : get_or w 0 0 ≤ get_or w 1 0 → false ≡ sound w
-  root-refuses f = sym (T_false (sound w) (λ s. omega (arith, f, pages-word w long, root-word w long, (sound-in w s).top)))
+  pub root_refuses : get_or w 0 0 ≤ get_or w 1 0 → false ≡ sound w
+  root_refuses f = sym (T_false (sound w) (λ s. omega (arith, f, pages-word w long, root-word w long, (sound-in w s).top)))
 
   module _ (pg : List ℕ) (most : get_or w 0 0 ≤ PAGES) (below : get_or w 1 0 < get_or w 0 0) (is : pg ≡ page_words w (get_or w 1 0)) where
     root-level : (page (table_in w) (get_or w 1 0)).level ≡ get_or pg 0 0

@@ -1,53 +1,56 @@
 -- The tests of a page's level, size and tail.
 use Prim.Native.Nat.{ℕ, ◌+◌, ◌*◌, ◌≤◌, ◌<◌}
 use native.Mathlib.Omega.{arith}
-use mathlib.Core.Path.{◌≡◌, sym, ap, ◌∙◌}
-use mathlib.Core.Bool.{Bool, true, false}
+use mathlib.Core.Path.{◌≡◌, sym, ap, subst, ◌∙◌}
 use mathlib.Core.List.{List}
 use lib.ListN.{length, get_or, drop}
+use lib.Dec.{T, leb, eqb}
+use borrow.Author.Tests.{leb-true, le-leb, eqb-true, eq-eqb}
+use Rattle.std.specs.Prelude.{◌↔◌, IsTrue}
 use Rattle.pages.specs.Sizes.{PAGE_HEAD, FANOUT, ENTRY_WORDS, PAGES, TABLE_WORDS}
 use Rattle.pages.specs.Layout.{page, page_words, table_in}
 use Rattle.pages.specs.Readers.{entries_in}
 use Rattle.pages.specs.Sound.{zeros}
-use Rattle.pages.proofs.Lists.{true-T, false-T}
-use Rattle.soundness.specs.Steps.{Head}
+use Rattle.pages.proofs.Lists.{true-T, T_true, both, and}
+use Rattle.soundness.specs.Steps.{shaped, Head}
 use Rattle.soundness.proofs.Words.{level-word, size_word, entries-words}
 
-module _ (w : List ℕ) (l m p : ℕ) (pg : List ℕ) (long : TABLE_WORDS ≤ length w) (pl : p < length (table_in w).pages) (most : length (table_in w).pages ≤ PAGES) (is : pg ≡ page_words w p) where
-  level-is : (page (table_in w) p).level ≡ get_or pg 0 0
-  level-is = level-word w long p pl most ∙ ap (λ x. get_or x 0 0) (sym is)
+-- what the tests of its words say of a page
+pub shaped_head : (w : List ℕ) (l m p : ℕ) → TABLE_WORDS ≤ length w → p < length (table_in w).pages → length (table_in w).pages ≤ PAGES → IsTrue (shaped (page_words w p) l m) ↔ Head w l m p
+shaped_head w l m p long inside most = (made, tests)
+  where
+    n : ℕ
+    n = get_or (page_words w p) 1 0
 
-  size_is : length (page (table_in w) p).entries ≡ get_or pg 1 0
-  size_is = size_word w long p pl most ∙ ap (λ x. get_or x 1 0) (sym is)
+    tail : ℕ → Type 0
+    tail k = T (zeros (drop (PAGE_HEAD + ENTRY_WORDS * k) (page_words w p)))
 
-  tail-is : zeros (drop (PAGE_HEAD + ENTRY_WORDS * length (page (table_in w) p).entries) (page_words w p)) ≡ zeros (drop (PAGE_HEAD + ENTRY_WORDS * get_or pg 1 0) pg)
-  tail-is = ap (λ n. zeros (drop (PAGE_HEAD + ENTRY_WORDS * n) (page_words w p))) size_is ∙ ap (λ x. zeros (drop (PAGE_HEAD + ENTRY_WORDS * get_or pg 1 0) x)) (sym is)
+    level-is : (page (table_in w) p).level ≡ get_or (page_words w p) 0 0
+    level-is = level-word w long p inside most
 
-  pub head-level : (get_or pg 0 0 ≡ l → ⊥) → Head w l m p → ⊥
-  head-level n h = n (sym level-is ∙ h.level)
+    size-is : length (page (table_in w) p).entries ≡ n
+    size-is = size_word w long p inside most
 
-  pub head_few : get_or pg 1 0 < m → Head w l m p → ⊥
-  head_few n h = omega (arith, size_is, h.enough)
+    made : IsTrue (shaped (page_words w p) l m) → Head w l m p
+    made t =
+        let a = both (eqb (get_or (page_words w p) 0 0) l) _ (true-T _ t) in
+        let b = both (leb m n) _ a.1 in
+        let d = both (leb n FANOUT) _ b.1 in record {
+          inside = inside;
+          level = level-is ∙ eqb-true _ l (T_true _ a.0);
+          enough = omega (arith, size-is, leb-true m n (T_true _ b.0));
+          eight = omega (arith, size-is, leb-true n FANOUT (T_true _ d.0));
+          blank = subst tail (sym size-is) d.1;
+        }
 
-  pub head-many : FANOUT < get_or pg 1 0 → Head w l m p → ⊥
-  head-many n h = omega (arith, size_is, h.eight)
-
-  module _ (b : Bool) (z : b ≡ zeros (drop (PAGE_HEAD + ENTRY_WORDS * get_or pg 1 0) pg)) where
-    pub head-made : get_or pg 0 0 ≡ l → m ≤ get_or pg 1 0 → get_or pg 1 0 ≤ FANOUT → b ≡ true → Head w l m p
-    head-made lv few many t = record {
-      inside = pl;
-      level = level-is ∙ lv;
-      enough = omega (arith, size_is);
-      eight = omega (arith, size_is);
-      blank = true-T _ (tail-is ∙ (sym z ∙ t));
-    }
-
-    pub head_tail : b ≡ false → Head w l m p → ⊥
-    head_tail f h = false-T _ (tail-is ∙ (sym z ∙ f)) h.blank
+    tests : Head w l m p → IsTrue (shaped (page_words w p) l m)
+    tests h = T_true _ (and (eqb (get_or (page_words w p) 0 0) l) _ (true-T _ (eq-eqb _ l (sym level-is ∙ h.level)))
+        (and (leb m n) _ (true-T _ (le-leb m n (omega (arith, size-is, h.enough))))
+        (and (leb n FANOUT) _ (true-T _ (le-leb n FANOUT (omega (arith, size-is, h.eight)))) (subst tail size-is h.blank))))
 
 module _ (w : List ℕ) (l m p : ℕ) (pg : List ℕ) (long : TABLE_WORDS ≤ length w) (most : length (table_in w).pages ≤ PAGES) (h : Head w l m p) (is : pg ≡ page_words w p) where
   pub size_fits : get_or pg 1 0 ≤ FANOUT
-  size_fits = omega (arith, size_is w l m p pg long h.inside most is, h.eight)
+  size_fits = omega (arith, size_word w long p h.inside most, h.eight, ap (λ x. get_or x 1 0) is)
 
   pub entries-are : (page (table_in w) p).entries ≡ entries_in pg (get_or pg 1 0)
   entries-are = entries-words w long p h.inside most ∙ ap (λ x. entries_in x (get_or x 1 0)) (sym is)

@@ -5,6 +5,7 @@ use native.Mathlib.Nat.{le_antisymm}
 use mathlib.Core.Path.{◌≡◌, refl, ap, subst, ◌∙◌}
 use mathlib.Core.Bool.{Bool, true, false}
 use mathlib.Core.List.{List}
+use Rattle.std.specs.Prelude.{Some, None}
 use Rattle.pages.specs.declared.Rect.{Rect}
 use Rattle.pages.specs.declared.Entry.{Entry}
 use Rattle.pages.specs.Sizes.{PIECES}
@@ -38,18 +39,18 @@ module _ (w g₀ : List ℕ) (b₀ : Rect) where
       widen_more w i b b₀ b' e t.2 q v,
     )
 
-    pub taken_not : (n : ℕ) → i < n → r ≡ false → LeafTested (entries_in w n) g₀ (record { good = false; bounds = b }) g'
+    pub taken_not : (n : ℕ) → i < n → r ≡ false → LeafTested (entries_in w n) g₀ None g'
     taken_not n l u = record {
       tested = record {
         yes = λ z. absurd (not-both false z refl);
         no = λ _ ps room. here.no u (every-entry w Piece n i l ps)
             (room-left PIECES g₀ g (λ c. sum (is c) (entries_in w i)) (λ c. is c (entry_in w i)) (λ c. sum (is c) (entries_in w n)) t.1 (λ c. sum-entry w (is c) n i l) room);
       };
-      exact = λ z. absurd (not-both false z refl);
+      exact = tt;
     }
 
-  pub taken-all : (i n : ℕ) (g : List ℕ) (b : Rect) → i ≤ n → n ≤ i → Taken i g b → b₀ ≡ (entry_in w 0).rect → LeafTested (entries_in w n) g₀ (record { good = true; bounds = b }) g
-  taken-all i n g b x y t z = subst (λ m. LeafTested (entries_in w m) g₀ (record { good = true; bounds = b }) g) (le_antisymm x y) (record {
+  pub taken-all : (i n : ℕ) (g : List ℕ) (b : Rect) → i ≤ n → n ≤ i → Taken i g b → b₀ ≡ (entry_in w 0).rect → LeafTested (entries_in w n) g₀ (Some b) g
+  taken-all i n g b x y t z = subst (λ m. LeafTested (entries_in w m) g₀ (Some b) g) (le_antisymm x y) (record {
     tested = record { yes = λ _. (t.0, t.1); no = λ u _ _. absurd (not-both true refl u) };
-    exact = λ _ l. t.2 ∙ (ap (λ r. widen_all r (entries_in w i)) z ∙ widen-done w i (omega (arith, length-entries w i)));
+    exact = λ l. t.2 ∙ (ap (λ r. widen_all r (entries_in w i)) z ∙ widen-done w i (omega (arith, length-entries w i)));
   })

@@ -1,15 +1,13 @@
 -- What the inner functions of check are held to: the pages under a page, and the marks that a walk over them leaves.
-use Rattle.std.specs.Prelude.{ℕ, zero, suc, ◌+◌, ◌*◌, ◌≤◌, ◌<◌, max, ◌≡◌, Bool, true, false, ◌&&◌, cond, List, length, get_or, drop, T, eqb}
-use Rattle.std.specs.Int.Bits.{bit_or}
+use Rattle.std.specs.Prelude.{ℕ, zero, suc, ◌+◌, ◌*◌, ◌≤◌, ◌<◌, max, ◌≡◌, Bool, true, false, ◌&&◌, cond, Option, is_some, IfSome, List, length, get_or, drop, T, eqb, leb}
 use Rattle.pages.specs.Under.{under, seen}
 use Rattle.pages.specs.declared.Rect.{Rect}
 use Rattle.pages.specs.declared.Entry.{Entry}
 use Rattle.pages.specs.Sizes.{PIECES, PAGE_HEAD, FANOUT, ENTRY_WORDS, PAGES, TABLE_WORDS, TOP_LEVEL, FEWEST, ROOT_LEAST}
 use Rattle.pages.specs.Lists.{one, sum, sum_below, Every}
-use Rattle.pages.specs.Rectangles.{rect_of, entry_of, valid, same_rect, widen, bounds}
+use Rattle.pages.specs.Rectangles.{valid, bounds}
 use Rattle.pages.specs.Layout.{page, page_words, table_in}
 use Rattle.pages.specs.Sound.{is, zeros}
-use Rattle.soundness.specs.declared.Visit.{Visit}
 
 -- below n, h' has f q more marks at each q than h, and never two
 abbrev pub Adds : ℕ → List ℕ → List ℕ → (ℕ → ℕ) → Type 0
@@ -30,14 +28,15 @@ visits w l p q = seen (λ x. one (eqb x q)) (table_in w).pages l p
 abbrev pub stores : List ℕ → ℕ → ℕ → ℕ → ℕ
 stores w l p c = under (is c) (table_in w).pages l p
 
--- the words of two entries, each pair joined by `or`
-abbrev pub merged_of : Entry → Entry → Entry
-merged_of a b =
-    entry_of (rect_of (bit_or a.rect.x1 b.rect.x1) (bit_or a.rect.y1 b.rect.y1) (bit_or a.rect.x2 b.rect.x2) (bit_or a.rect.y2 b.rect.y2)) (bit_or a.r b.r)
-
 -- what is asked of an entry in a leaf
 abbrev pub Piece : Entry → Type 0
 Piece e = T (valid e.rect) × (e.r < PIECES)
+
+-- what is asked of a page's own words, at level l with m or more entries
+abbrev pub shaped : List ℕ → ℕ → ℕ → Bool
+shaped pg l m =
+    eqb (get_or pg 0 0) l
+    && (leb m (get_or pg 1 0) && (leb (get_or pg 1 0) FANOUT && zeros (drop (PAGE_HEAD + ENTRY_WORDS * get_or pg 1 0) pg)))
 
 -- what is asked of page p itself, at level l with m or more entries
 pub record Head (w : List ℕ) (l m p : ℕ) : Type 0 where
@@ -57,20 +56,20 @@ pub record Tested (n : ℕ) (P : Type 0) (f : ℕ → ℕ) (h : List ℕ) (r : B
   pub yes : r ≡ true → P × Adds n h h' f
   pub no : r ≡ false → P → Room n h f → ⊥
 
--- of a leaf's entries
-pub record LeafTested (es : List Entry) (g : List ℕ) (r : Visit) (g' : List ℕ) : Type 0 where
-  pub tested : Tested PIECES (Every Piece es) (λ c. sum (is c) es) g r.good g'
-  pub exact : r.good ≡ true → 1 ≤ length es → r.bounds ≡ bounds es
+-- of a leaf's entries: with what bounds it is passed
+pub record LeafTested (es : List Entry) (g : List ℕ) (r : Option Rect) (g' : List ℕ) : Type 0 where
+  pub tested : Tested PIECES (Every Piece es) (λ c. sum (is c) es) g (is_some r) g'
+  pub exact : IfSome r (λ b. 1 ≤ length es → b ≡ bounds es)
 
 -- of page p with all that is under it
-pub record Visited (w : List ℕ) (l m p : ℕ) (h g : List ℕ) (r : Visit) (h' g' : List ℕ) : Type 0 where
-  pub yes : r.good ≡ true → Tree w l m p × Adds PAGES h h' (visits w l p) × Adds PIECES g g' (stores w l p)
-  pub no : r.good ≡ false → Tree w l m p → Room PAGES h (visits w l p) → Room PIECES g (stores w l p) → ⊥
-  pub exact : r.good ≡ true → 1 ≤ length (page (table_in w) p).entries → r.bounds ≡ bounds (page (table_in w) p).entries
+pub record Visited (w : List ℕ) (l m p : ℕ) (h g : List ℕ) (r : Option Rect) (h' g' : List ℕ) : Type 0 where
+  pub yes : is_some r ≡ true → Tree w l m p × Adds PAGES h h' (visits w l p) × Adds PIECES g g' (stores w l p)
+  pub no : is_some r ≡ false → Tree w l m p → Room PAGES h (visits w l p) → Room PIECES g (stores w l p) → ⊥
+  pub exact : IfSome r (λ b. 1 ≤ length (page (table_in w) p).entries → b ≡ bounds (page (table_in w) p).entries)
 
--- one child more, whose entry holds the rectangle
-unfoldable pub with_child : Visit → Visit → Rect → Visit
-with_child a v r = record { good = v.good && same_rect r v.bounds; bounds = widen a.bounds r }
+-- each page below k is marked, and as many piece numbers as word 2 says
+abbrev pub Complete : List ℕ → ℕ → List ℕ → List ℕ → Type 0
+Complete w k h g = (total_of h k ≡ k) × (total_of g PIECES ≡ get_or w 2 0)
 
 -- the fewest entries of a root at a level
 abbrev pub root_fewest : ℕ → ℕ

@@ -1,18 +1,26 @@
 -- The walk, the marks that it leaves and the rest decide.
-use borrow.Author.Tests.{not-true, not-false, eqb-true, eqb-false}
-use mathlib.Core.Path.{sym, ◌∙◌}
+use Rattle.std.proofs.Common.{sym, ap, ◌∙◌}
+use Rattle.pages.proofs.Lists.{not-both}
 use Rattle.pages.proofs.Zeros.{zero-at}
-use Rattle.soundness.proofs.Decides.{walk-refuses, pages-refuse, pieces-refuse, rest-decides}
+use Rattle.soundness.proofs.Decides.{walk_refuses, marks_refuse, rest_decides}
 use Rattle.soundness.proofs.is_sound_from.Goals as goal
+use Rattle.soundness.proofs.is_sound_from.Goals.{then-is_some, else-is_some}
 
-pub returns-then-not-all : goal.returns-then-not-all
-returns-then-not-all c = walk-refuses c.args.table.now c.args.k c.args.root c.args.level c.requires _ _ _ _ c.walk-all.result (zero-at 341) (zero-at 1024) _ c.root_fewest-least.ensures c.walk-all.ensures (not-true c.walk-all.result.good c.if-not-all.true)
+pub returns-then-is_complete : goal.returns-then-is_complete
+returns-then-is_complete c =
+    let s = c.visit.new.self in
+    elim c.if-is_some.branch [
+      | then-is_some w ↦ rest_decides c.args.table.now c.args.k c.args.root c.args.level c.requires _ _ s.seen s.numbers c.visit.result (zero-at 341) (zero-at 1024) _ c.root_fewest.ensures c.visit.ensures.visited (sym w.if-is_some.ensures)
+          s.table.now (ap (λ x. x.now) c.visit.ensures.same) s.k s.count (w.is_complete.ensures.0 (sym w.value-is ∙ c.if-is_complete.true)) c.is_blank.result c.is_blank.ensures
+      | else-is_some w ↦ absurd (not-both _ c.if-is_complete.true (w.value-is ∙ w.if-is_some.false))
+    ]
 
-pub returns-then-not-all_seen : goal.returns-then-not-all_seen
-returns-then-not-all_seen c = pages-refuse c.args.table.now c.args.k c.args.root c.args.level c.requires _ _ _ _ c.walk-all.result (zero-at 341) (zero-at 1024) _ c.root_fewest-least.ensures c.walk-all.ensures (not-false c.walk-all.result.good c.if-not-all.false) (eqb-false _ _ (sym c.all_seen.ensures ∙ c.if-not-all_seen.true))
-
-pub returns-then-not-counted : goal.returns-then-not-counted
-returns-then-not-counted c = pieces-refuse c.args.table.now c.args.k c.args.root c.args.level c.requires _ _ _ _ c.walk-all.result (zero-at 341) (zero-at 1024) _ c.root_fewest-least.ensures c.walk-all.ensures (not-false c.walk-all.result.good c.if-not-all.false) (eqb-false _ _ (sym c.counted.ensures ∙ c.if-not-counted.true))
-
-pub returns : goal.returns
-returns c = rest-decides c.args.table.now c.args.k c.args.root c.args.level c.requires _ _ _ _ c.walk-all.result (zero-at 341) (zero-at 1024) _ c.root_fewest-least.ensures c.walk-all.ensures (not-false c.walk-all.result.good c.if-not-all.false) (eqb-true _ _ (sym c.all_seen.ensures ∙ c.if-not-all_seen.false)) (eqb-true _ _ (sym c.counted.ensures ∙ c.if-not-counted.false)) c.is_blank.result c.is_blank.ensures
+pub returns-else-is_complete : goal.returns-else-is_complete
+returns-else-is_complete c =
+    let s = c.visit.new.self in
+    elim c.if-is_some.branch [
+      | then-is_some w ↦ c.if-is_complete.false
+          ∙ marks_refuse c.args.table.now c.args.k c.args.root c.args.level c.requires _ _ s.seen s.numbers c.visit.result (zero-at 341) (zero-at 1024) _ c.root_fewest.ensures c.visit.ensures.visited (sym w.if-is_some.ensures)
+          s.table.now (ap (λ x. x.now) c.visit.ensures.same) s.k s.count (λ t. not-both _ (w.is_complete.ensures.1 t) (sym w.value-is ∙ c.if-is_complete.false))
+      | else-is_some w ↦ c.if-is_complete.false ∙ walk_refuses c.args.table.now c.args.k c.args.root c.args.level c.requires _ _ s.seen s.numbers c.visit.result (zero-at 341) (zero-at 1024) _ c.root_fewest.ensures c.visit.ensures.visited (sym w.if-is_some.ensures)
+    ]

@@ -1,9 +1,5 @@
-use Prim.Native.Nat.{◌≤◌, ◌-◌}
 use Rattle.soundness.proofs.Leaves.{Taken}
 use Rattle.soundness.proofs.leaf.Given as goal
 
 abbrev pub invariant-loop-i : goal.invariant-loop-i
-invariant-loop-i l = (l.i ≤ l.n) × Taken l.page l.initial.numbers l.initial.bounds l.i l.numbers l.bounds
-
-abbrev pub decreases-loop-i : goal.decreases-loop-i
-decreases-loop-i l = l.n - l.i
+invariant-loop-i l = Taken l.page l.initial.numbers l.initial.bounds l.i l.numbers l.bounds
