@@ -1,20 +1,34 @@
 -- The bounds of one entry more, and of a page's first entries.
-use Prim.Native.Nat.{ℕ, zero, suc, ◌+◌, ◌<◌, ◌≤◌}
+use Prim.Native.Nat.{ℕ, zero, suc, ◌+◌, ◌<◌}
 use native.Mathlib.Omega.{arith}
-use native.Mathlib.Nat.{not-suc-le-zero, le_antisymm}
+use native.Mathlib.Nat.{not-suc-le-zero}
 use native.Mathlib.Numerals.{add-one}
 use mathlib.Core.Path.{◌≡◌, refl, sym, ap, ◌∙◌}
 use mathlib.Core.List.{List, [], ◌∷◌, ◌++◌}
+use Rattle.std.specs.List.{fold}
 use lib.ListN.{length, length-append}
 use Rattle.pages.specs.declared.Rect.{Rect}
 use Rattle.pages.specs.declared.Entry.{Entry}
-use Rattle.pages.specs.Rectangles.{widen, widen_all, bounds}
+use Rattle.pages.specs.Rectangles.{rect_of, widen, widen_all, bounds}
 use Rattle.pages.specs.Readers.{entry_in, entries_in}
 
 pub widen-last : (r : Rect) (es : List Entry) (e : Entry) → widen_all r (es ++ (e ∷ [])) ≡ widen (widen_all r es) e.rect
 unfolding widen_all
 widen-last r [] e = refl
 widen-last r (x ∷ es) e = widen-last (widen r x.rect) es e
+
+widen_fold : (r : Rect) (es : List Entry) → widen_all r es ≡ fold (λ b e. widen b e.rect) r es
+unfolding widen_all
+widen_fold r [] = refl
+widen_fold r (e ∷ es) = widen_fold (widen r e.rect) es
+
+pub bounds_none : (es : List Entry) → es ≡ [] → rect_of 0 0 0 0 ≡ bounds es
+unfolding bounds
+bounds_none es h = sym (ap bounds h)
+
+pub bounds-folded : (es rest : List Entry) (e : Entry) → es ≡ e ∷ rest → fold (λ b x. widen b x.rect) e.rect rest ≡ bounds es
+unfolding bounds
+bounds-folded es rest e h = sym (ap bounds h ∙ widen_fold e.rect rest)
 
 pub bounds-last : (es : List Entry) (e : Entry) → 0 < length es → bounds (es ++ (e ∷ [])) ≡ widen (bounds es) e.rect
 unfolding bounds
@@ -29,16 +43,3 @@ length-entries w (suc n) = omega (arith, length-append (entries_in w n) (entry_i
 pub entries-more : (w : List ℕ) (i : ℕ) → entries_in w (i + 1) ≡ entries_in w i ++ (entry_in w i ∷ [])
 unfolding entries_in
 entries-more w i = rw (add-one i)
-
-pub bounds-first : (w : List ℕ) (e : Entry) → e ≡ entry_in w 0 → e.rect ≡ bounds (entries_in w 1)
-unfolding bounds entries_in widen_all
-bounds-first w e h = ap (λ x. x.rect) h
-
-pub bounds-more : (w : List ℕ) (i : ℕ) (b r : Rect) (e : Entry) → 1 ≤ i → b ≡ bounds (entries_in w i) → e ≡ entry_in w i → r ≡ widen b e.rect
-    → r ≡ bounds (entries_in w (i + 1))
-bounds-more w i b r e l p q s =
-    rw entries-more (s ∙ ap (λ x. widen x e.rect) p ∙ ap (λ x. widen (bounds (entries_in w i)) x.rect) q
-    ∙ sym (bounds-last (entries_in w i) (entry_in w i) (omega (arith, length-entries w i))))
-
-pub bounds-done : (w : List ℕ) (i n : ℕ) (b : Rect) → b ≡ bounds (entries_in w i) → i ≤ n → n ≤ i → b ≡ bounds (entries_in w n)
-bounds-done w i n b p h k = p ∙ ap (λ m. bounds (entries_in w m)) (le_antisymm h k)

@@ -13,6 +13,7 @@ pub mod Walk
 pub mod Visit
 pub mod Zeros
 pub mod Bounds
+pub mod Firsts
 pub mod EmptyTable
 pub mod Examples
 pub mod Claimed

@@ -8,6 +8,7 @@ pub mod Refusals
 pub mod Calls
 pub mod Readers
 pub mod Writes
+pub mod Left
 pub mod Under
 pub mod Examples
 pub mod Claims

@@ -9,8 +9,12 @@ ghost use Rattle.pages.specs.Rectangles.{rect_of, valid, widen, bounds};
 ghost use Rattle.pages.specs.Layout.{page_words};
 ghost use Rattle.pages.specs.Readers.{entry_in, entries_in};
 ghost use Rattle.pages.specs.Writes.{put_page};
+ghost use Rattle.pages.specs.Left.{left};
 ghost use Rattle.pages.specs.Calls.{empty_call};
 
+mod iter;
+
+pub use iter::PageEntries;
 use refusals::Refusal;
 
 // How many piece numbers there are.
@@ -151,16 +155,29 @@ pub fn entry_of(page: &[u32; PAGE_WORDS], i: usize) -> Entry
     }
 }
 
+// The first n entries of a page's words.
+pub fn entries_of(page: &[u32; PAGE_WORDS], n: usize) -> PageEntries<'_>
+    requires { n ≤ FANOUT }
+    ensures { left result ≡ entries_in page.now n }
+{
+    PageEntries {
+        page,
+        next: 0,
+        end: n,
+    }
+}
+
 // The bounds of the first n entries of a page's words.
+#[tactic(auto, using(crate::proofs::Bounds::bounds_none))]
 pub fn bounds_of(page: &[u32; PAGE_WORDS], n: usize) -> Rect
-    requires { (1 ≤ n) × (n ≤ FANOUT) }
+    requires { n ≤ FANOUT }
     ensures { result ≡ bounds (entries_in page.now n) }
 {
-    let mut b = entry_of(page, 0).rect;
-    for i in 1..n {
-        b = b.widened(entry_of(page, i).rect);
-    }
-    b
+    let mut entries = entries_of(page, n);
+    let Some(first) = entries.next() else {
+        return Rect::default();
+    };
+    entries.fold(first.rect, |bounds, e| bounds.widened(e.rect))
 }
 
 // Makes the table empty, whatever words it had.

@@ -1,14 +1,13 @@
--- One entry more widens the bounds so far.
-use Rattle.std.proofs.Common.{rules}
-use Rattle.pages.proofs.Bounds.{bounds-first, bounds-more, bounds-done}
+-- The first entry's rectangle is widened by each of the others.
+use Rattle.std.proofs.Common.{rules, refl, ap, ◌∙◌}
+use Rattle.std.proofs.lemmas.Iterator.Consumers.{fold_from_yields_List, YieldsList-from_first}
+use Rattle.pages.specs.Rectangles.{widen, bounds}
+use Rattle.pages.specs.Left.{left}
+use Rattle.pages.proofs.Bounds.{bounds-folded}
 use Rattle.pages.proofs.bounds_of.Goals as goal
 
-pub loop-i-init : goal.loop-i-init
-loop-i-init c = (search rules, search rules, bounds-first _ _ c.entry_of.ensures)
-
-pub loop-i-preserved : goal.loop-i-preserved
-loop-i-preserved c =
-    (search rules, search rules, bounds-more _ _ _ _ _ (search rules) c.loop-i.invariant.2 c.entry_of-in-loop-i.ensures c.widened-b.ensures)
-
 pub returns : goal.returns
-returns c = bounds-done _ _ _ _ c.loop-i.invariant.2 (search rules) (search rules)
+returns c =
+    fold_from_yields_List _ (λ b e. widen b e.rect) _ _ c.fold.ensures.ran (YieldsList-from_first (λ x. x) left _ refl) (λ a x b q k. search rules)
+    ∙ bounds-folded _ _ c.in-Some.first c.in-Some.ensures.steps
+    ∙ ap bounds c.entries_of-entries.ensures
