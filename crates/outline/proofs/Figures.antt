@@ -3,19 +3,19 @@ use Prim.Native.Nat.{ℕ, ◌+◌, ◌*◌, ◌%◌, ◌≤◌}
 use mathlib.Core.Path.{◌≡◌, refl, sym, ap, ◌∙◌}
 use mathlib.Core.List.{List, [], ◌∷◌}
 use native.Mathlib.Omega.{arith}
-use lib.IntN.{pos}
+use lib.IntN.{ℤ, pos, ◌+ℤ◌, ◌-ℤ◌}
 use lib.ListN.{length}
 use borrow.Author.Tests.{le-leb}
 use Rattle.outline.specs.declared.Point.{Point}
+use Rattle.outline.specs.declared.Edge.{Edge}
 use Rattle.outline.specs.Outline.{FARTHEST, points, path, edges}
-use Rattle.outline.specs.Area.{area_twice}
+use Rattle.outline.specs.Area.{cross, area_twice}
 use Rattle.outline.specs.Refusals.{ACCEPTED, wrong_count, within, outline_refusal}
 use Rattle.outline.specs.Calls.{area_call}
-use Rattle.outline.specs.Steps.{plus_of, minus_of}
 use Rattle.outline.specs.Claims.{words_of, area_of, rectangle, triangle}
 use Rattle.outline.proofs.Heights.{ring}
-use Rattle.outline.proofs.Signed.{minus-cancel}
-use Rattle.outline.proofs.Answers.{area-is, area-accepted}
+use Rattle.outline.proofs.Signed.{minus-add, minus-cancel}
+use Rattle.outline.proofs.Answers.{area-accepted}
 use Rattle.outline.proofs.Same.{points-words}
 
 pub words-points : (ws : List ℕ) → length ws % 2 ≡ 0 → words_of (points ws) ≡ ws
@@ -23,6 +23,21 @@ unfolding words_of points
 words-points [] e = refl
 words-points (x ∷ []) e = absurd (omega (arith, e))
 words-points (x ∷ (y ∷ ws)) e = ap (λ (vs : List ℕ). x ∷ (y ∷ vs)) (words-points ws (omega arith))
+
+-- the sums of a * d and of b * c
+unfoldable plus_of : List Edge → ℕ
+plus_of [] = 0
+plus_of (e ∷ es) = e.a * e.d + plus_of es
+
+unfoldable minus_of : List Edge → ℕ
+minus_of [] = 0
+minus_of (e ∷ es) = e.b * e.c + minus_of es
+
+-- the sum of the differences is the difference of the sums
+area-is : (es : List Edge) → pos (plus_of es) -ℤ pos (minus_of es) ≡ area_twice es
+unfolding plus_of minus_of area_twice
+area-is [] = refl
+area-is (e ∷ es) = sym (minus-add (e.a * e.d) (e.b * e.c) (plus_of es) (minus_of es)) ∙ ap (λ (z : ℤ). cross e +ℤ z) (area-is es)
 
 -- an accepted outline whose products differ by n
 of-products : (ps : List Point) (n : ℕ) → outline_refusal (words_of ps) (words_of ps) ≡ ACCEPTED → plus_of (edges ps) ≡ minus_of (edges ps) + n

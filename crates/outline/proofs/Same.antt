@@ -21,13 +21,13 @@ use Rattle.outline.proofs.Signed.{minus_negated}
 use Rattle.outline.proofs.Totals.{Sums, total, total-turn, total-reverse}
 use Rattle.outline.proofs.Turning.{total-begun, total-reversed}
 
-abbrev integers : Sums ℤ
+abbrev pub integers : Sums ℤ
 integers = record { op = ◌+ℤ◌; none = pos 0; assoc = +ℤ_assoc; comm = +ℤ_comm; left = +ℤ_idl }
 
-abbrev numbers : Sums ℕ
+abbrev pub numbers : Sums ℕ
 numbers = record { op = ◌+◌; none = 0; assoc = add_assoc; comm = add_comm; left = zero-add }
 
-abbrev any : Sums Bool
+abbrev pub any : Sums Bool
 any = record { op = ◌||◌; none = false; assoc = or_assoc; comm = or_comm; left = λ b. refl }
 
 abbrev every : Sums Bool
@@ -53,7 +53,7 @@ counts-flipped e p =
     let higher : max e.d e.b ≡ max e.b e.d = omega arith in
     rw (lower, higher, parts-flipped e p.y, x-flipped e p.y)
 
-area-total : (es : List Edge) → area_twice es ≡ total integers cross es
+pub area-total : (es : List Edge) → area_twice es ≡ total integers cross es
 unfolding area_twice total
 area-total [] = refl
 area-total (e ∷ es) = ap (λ (z : ℤ). cross e +ℤ z) (area-total es)
@@ -68,18 +68,18 @@ pub area-reversed : (ps : List Point) → area_twice (edges (reverse ps)) ≡ ne
 area-reversed ps = area-total _ ∙ total-reversed integers cross neg_ℤ refl neg_ℤ-+ℤ cross-flipped ps ∙ ap neg_ℤ (sym (area-total _))
 
 module _ (p : Point) where
-  abbrev on_it : Edge → Bool
+  abbrev pub on_it : Edge → Bool
   on_it e = is_on_edge e p
 
-  abbrev counted : Edge → ℕ
+  abbrev pub counted : Edge → ℕ
   counted e = cond (counts e p) 1 0
 
-  on_total : (es : List Edge) → on_any es p ≡ total any on_it es
+  pub on_total : (es : List Edge) → on_any es p ≡ total any on_it es
   unfolding on_any total
   on_total [] = refl
   on_total (e ∷ es) = ap (λ (b : Bool). on_it e || b) (on_total es)
 
-  crossings-total : (es : List Edge) → crossings es p ≡ total numbers counted es
+  pub crossings-total : (es : List Edge) → crossings es p ≡ total numbers counted es
   unfolding crossings total
   crossings-total [] = refl
   crossings-total (e ∷ es) = ap (λ (n : ℕ). counted e + n) (crossings-total es)

@@ -5,28 +5,18 @@ use mathlib.Core.Bool.{Bool, true, false, ◌&&◌, and-false, and-true, false�
 use native.Mathlib.Decide.{dec_lt}
 use native.Mathlib.Nat.{le_of_lt}
 use native.Mathlib.Omega.{arith}
-use mir.Val.{bool_byte}
-use lib.Dec.{leb, eqb}
+use lib.Dec.{leb, ltb, eqb}
 use borrow.Author.Tests.{lt-ltb, le-ltb, le-leb, lt-leb, eq-eqb, ne_eqb}
+use Rattle.std.specs.Prelude.{Some, None}
+use Rattle.std.specs.Ordering.{nat_cmp, is_lt}
+use Rattle.std.proofs.lemmas.Bool.Decides.{nat_tests}
 use Rattle.outline.specs.declared.Point.{Point}
 use Rattle.outline.specs.declared.Edge.{Edge}
-use Rattle.outline.specs.declared.point_test.Met.{Met}
 use Rattle.outline.specs.Place.{gone, ahead, meets_ray, counts, between, is_on_edge}
-use Rattle.outline.specs.Steps.{left, right, crossing, met_by}
+use Rattle.outline.specs.Steps.{left, right, met_by}
 use Rattle.outline.proofs.Tests.{leb-same, eqb_same}
 use Rattle.outline.proofs.Heights.{Parted, parted, east-rising, east-falling}
 use Rattle.outline.proofs.Means.{between-facts, is-between, has_parts, on-iff, crosses-iff}
-
-pub between-below : (v w z : ℕ) → z < min v w → false ≡ between v w z
-unfolding between
-between-below v w z h = rw (lt-leb (min v w) z h)
-
-pub between-above : (v w z u : ℕ) → min v w ≤ z → u ≡ max v w → leb z u ≡ between v w z
-unfolding between
-between-above v w z u h e = rw (e, le-leb (min v w) z h)
-
-abbrev pub met_of : Bool → ℕ → Met
-met_of on crossing = record { on = on; crossing = crossing }
 
 module _ (e : Edge) (p : Point) where
   pub rising : e.b ≤ p.y → p.y < e.d → counts e p ≡ leb (right e p) (left e p)
@@ -65,11 +55,9 @@ module _ (e : Edge) (p : Point) where
   unfolding is_on_edge
   not_on v = rw (v, and-false)
 
-  pub not-along : between e.b e.d p.y ≡ false → met_of false 0 ≡ met_by e p
+  -- nowhere at the edge's height
+  pub not-along : between e.b e.d p.y ≡ false → Some false ≡ met_by e p
   not-along v = rw (not_on v, never v)
-
-  pub off-crossing : is_on_edge e p ≡ false → (met_by e p).crossing ≡ crossing e p
-  off-crossing o = rw o
 
   module _ (v : between e.b e.d p.y ≡ true) where
     known : Parted e p
@@ -78,9 +66,6 @@ module _ (e : Edge) (p : Point) where
     on-is : is_on_edge e p ≡ (between e.a e.c p.x && eqb (left e p) (right e p))
     unfolding is_on_edge
     on-is = rw (v, eqb_same _ _ (left e p) (right e p) known.line)
-
-    pub off-line : (left e p ≡ right e p → ⊥) → met_of false (crossing e p) ≡ met_by e p
-    off-line n = let off : is_on_edge e p ≡ false = on-is ∙ rw (ne_eqb _ _ n, and-false) in rw off
 
     -- where an edge that counts is in line with the point, the point is on it
     on_line : left e p ≡ right e p → counts e p ≡ true → is_on_edge e p ≡ true
@@ -93,16 +78,62 @@ module _ (e : Edge) (p : Point) where
           y = known.height;
         })
 
-    -- in line with an edge at its height the point is on it, or beside a level one
-    pub in-line : left e p ≡ right e p → met_of (between e.a e.c p.x) 0 ≡ met_by e p
-    in-line line = go (between e.a e.c p.x) (counts e p) (on-is ∙ rw (eq-eqb _ _ line) (and-true (between e.a e.c p.x))) refl
-      where
-        go : (b c : Bool) → is_on_edge e p ≡ b → counts e p ≡ c → met_of b 0 ≡ met_by e p
-        go true c o t = rw o
-        go false false o t = rw (o, t)
-        go false true o t = absurd (false≢true (sym o ∙ on_line line t))
+    module _ (line : left e p ≡ right e p) where
+      on-line-is : is_on_edge e p ≡ between e.a e.c p.x
+      on-line-is = on-is ∙ rw (eq-eqb _ _ line) (and-true (between e.a e.c p.x))
 
--- a test's number is 1 or 0
-pub counted : (e : Edge) (p : Point) (t : Bool) → counts e p ≡ t → (bool_byte t ≡ crossing e p) × (bool_byte t ≤ 1)
-counted e p true h = (rw h, omega arith)
-counted e p false h = (rw h, omega arith)
+      pub on-it : between e.a e.c p.x ≡ true → None ≡ met_by e p
+      on-it b = rw (on-line-is ∙ b)
+
+      -- in line with an edge at its height, and beside it, as only with a level one
+      pub beside-it : between e.a e.c p.x ≡ false → Some false ≡ met_by e p
+      beside-it b = go (counts e p) refl
+        where
+          off : is_on_edge e p ≡ false
+          off = on-line-is ∙ b
+
+          go : (t : Bool) → counts e p ≡ t → Some false ≡ met_by e p
+          go false t = rw (off, t)
+          go true t = absurd (false≢true (sym off ∙ on_line line t))
+
+    -- off the line the edge counts by the side that the point is on
+    off-line : (left e p ≡ right e p → ⊥) → (t : Bool) → counts e p ≡ t → Some t ≡ met_by e p
+    off-line apart t c = let off : is_on_edge e p ≡ false = on-is ∙ rw (ne_eqb _ _ apart, and-false) in rw (off, c)
+
+    ends : (min e.b e.d ≤ p.y) × (p.y ≤ max e.b e.d)
+    ends = between-facts e.b e.d p.y v
+
+    pub on-right : left e p < right e p → Some (ltb p.y e.b) ≡ met_by e p
+    on-right less = off-line (λ n. omega arith) (ltb p.y e.b) (go (dec_lt p.y e.b) (dec_lt p.y e.d))
+      where
+        go : Dec (p.y < e.b) → Dec (p.y < e.d) → counts e p ≡ ltb p.y e.b
+        go (yes h) b = falling h (omega (arith, ends)) ∙ le-leb _ _ (le_of_lt less) ∙ sym (lt-ltb _ _ h)
+        go (no h) (yes k) = rising (omega (arith, h)) k ∙ lt-leb _ _ less ∙ sym (le-ltb _ _ (omega (arith, h)))
+        go (no h) (no k) = all-below (omega (arith, h)) (omega (arith, k)) ∙ sym (le-ltb _ _ (omega (arith, h)))
+
+    pub on-left : right e p < left e p → Some (ltb p.y e.d) ≡ met_by e p
+    on-left more = off-line (λ n. omega arith) (ltb p.y e.d) (go (dec_lt p.y e.d) (dec_lt p.y e.b))
+      where
+        go : Dec (p.y < e.d) → Dec (p.y < e.b) → counts e p ≡ ltb p.y e.d
+        go (yes h) b = rising (omega (arith, ends)) h ∙ le-leb _ _ (le_of_lt more) ∙ sym (lt-ltb _ _ h)
+        go (no h) (yes k) = falling k (omega (arith, h)) ∙ lt-leb _ _ more ∙ sym (le-ltb _ _ (omega (arith, h)))
+        go (no h) (no k) = all-below (omega (arith, k)) (omega (arith, h)) ∙ sym (le-ltb _ _ (omega (arith, h)))
+
+-- and what an edge says of a point, read back
+pub met-on : (e : Edge) (p : Point) → None ≡ met_by e p → is_on_edge e p ≡ true
+met-on e p h = go (is_on_edge e p) refl
+  where
+    go : (o : Bool) → is_on_edge e p ≡ o → is_on_edge e p ≡ true
+    go true a = a
+    go false a = let f = rw a at h in absurd (cc)
+
+pub met-off : (e : Edge) (p : Point) (t : Bool) → Some t ≡ met_by e p → (is_on_edge e p ≡ false) × (counts e p ≡ t)
+met-off e p t h = go (is_on_edge e p) refl
+  where
+    go : (o : Bool) → is_on_edge e p ≡ o → (is_on_edge e p ≡ false) × (counts e p ≡ t)
+    go true a = let f = rw a at h in absurd (cc)
+    go false a = let f = rw a at h in (a, cc)
+
+-- what `<` gives at two coordinates
+pub lt-is : (m n : ℕ) → is_lt (nat_cmp m n) ≡ ltb m n
+lt-is m n = grind (arith, nat_tests)

@@ -5,7 +5,6 @@ use mathlib.Core.Bool.{Bool, true, false, ◌&&◌, ◌||◌, false≢true}
 use mathlib.Core.Logic.{◌↔◌}
 use native.Mathlib.Decide.{ℕ_discrete, dec_le}
 use native.Mathlib.Omega.{arith}
-use mir.Val.{bool_byte}
 use lib.Dec.{leb, eqb}
 use borrow.Author.Tests.{le-leb, lt-leb, eq-eqb, ne_eqb}
 
@@ -23,10 +22,6 @@ both p q = rw (p, q)
 pub or-false-both : (a b : Bool) → (a || b) ≡ false → (a ≡ false) × (b ≡ false)
 or-false-both true b e = absurd (false≢true (sym e))
 or-false-both false b e = (refl, e)
-
-pub byte-most : (b : Bool) → bool_byte b ≤ 1
-byte-most true = omega arith
-byte-most false = omega arith
 
 -- two comparisons that say the same are the same test
 pub leb-same : (a b c d : ℕ) → (a ≤ b) ↔ (c ≤ d) → leb a b ≡ leb c d

@@ -1,45 +1,40 @@
 -- What the inner functions compute.
-use Rattle.std.specs.Prelude.{ℕ, ◌+◌, ◌*◌, ◌≤◌, cond, List, [], ◌∷◌, get_or}
+use Rattle.std.specs.Prelude.{ℕ, ◌+◌, ◌-◌, ◌*◌, ◌&&◌, cond, List, [], ◌∷◌, leb, get_or, length, Bool, Option, Some, None, Result, Ok, Err}
+use Rattle.refusals.specs.declared.Refusal.{Refusal}
+use Rattle.refusals.specs.declared.Refusal.TheVariants.{PointCount, CoordinateTooLarge}
 use Rattle.outline.specs.declared.Point.{Point}
 use Rattle.outline.specs.declared.Edge.{Edge}
-use Rattle.outline.specs.declared.point_test.Met.{Met}
 use Rattle.outline.specs.declared.point_test.Sides.{Sides}
-use Rattle.outline.specs.declared.sums.Products.{Products}
-use Rattle.outline.specs.Outline.{MOST_POINTS, FARTHEST, point, edge, points, edges}
+use Rattle.outline.specs.Outline.{FARTHEST, point, edge, points}
 use Rattle.outline.specs.Place.{counts, is_on_edge}
-
--- the words of the most points
-abbrev pub MOST_WORDS : ℕ
-MOST_WORDS = 2 * MOST_POINTS
+use Rattle.outline.specs.Refusals.{wrong_count, within}
 
 -- the largest product of two coordinates
 abbrev pub LARGEST : ℕ
 LARGEST = 1_000_000_000_000
 
--- the largest sum of such products over an outline
-abbrev pub MOST_SUM : ℕ
-MOST_SUM = MOST_POINTS * LARGEST
+-- what becomes of a word, of a point's two words, and of an outline's
+abbrev pub coordinate_of : ℕ → Result ℕ Refusal
+coordinate_of word = cond (leb word FARTHEST) (Ok word) (Err CoordinateTooLarge)
 
--- the point whose words begin at word i
-abbrev pub point_at : List ℕ → ℕ → Point
-point_at ws i = point (get_or ws i 0) (get_or ws (i + 1) 0)
+abbrev pub point_of : ℕ → ℕ → Result Point Refusal
+point_of x y = cond (leb x FARTHEST && leb y FARTHEST) (Ok (point x y)) (Err CoordinateTooLarge)
 
-abbrev pub no_edge : Edge
-no_edge = edge (point 0 0) (point 0 0)
+abbrev pub outline_of : List ℕ → Result (List Point) Refusal
+outline_of ws = cond (wrong_count (length ws)) (Err PointCount) (cond (within ws) (Ok (points ws)) (Err CoordinateTooLarge))
 
-unfoldable pub edge_at : List ℕ → ℕ → Edge
-edge_at ws i = get_or (edges (points ws)) i no_edge
+-- the edges from p to the first of the points, from there to the next, and so on to the last
+unfoldable pub edges_to : Point → List Point → List Edge
+edges_to p [] = []
+edges_to p (q ∷ ps) = edge p q ∷ edges_to q ps
 
--- every coordinate is at most a million
-pub record PointWithin (p : Point) : Type 0 where
-  pub x : p.x ≤ FARTHEST
-  pub y : p.y ≤ FARTHEST
+-- the last of the points
+abbrev pub last_point : List Point → Point
+last_point ps = get_or ps (length ps - 1) (point 0 0)
 
-pub record EdgeWithin (e : Edge) : Type 0 where
-  pub a : e.a ≤ FARTHEST
-  pub b : e.b ≤ FARTHEST
-  pub c : e.c ≤ FARTHEST
-  pub d : e.d ≤ FARTHEST
+-- the edges of an outline, from the one that joins the last point to the first
+abbrev pub closing_first : List Point → List Edge
+closing_first ps = edges_to (last_point ps) ps
 
 -- left less right is twice the signed area of the edge's ends and p
 abbrev pub left : Edge → Point → ℕ
@@ -51,21 +46,6 @@ right e p = e.b * e.c + e.d * p.x + p.y * e.a
 abbrev pub sides_of : Edge → Point → Sides
 sides_of e p = record { left = left e p; right = right e p }
 
-abbrev pub crossing : Edge → Point → ℕ
-crossing e p = cond (counts e p) 1 0
-
--- the point is on the edge, or else the edge counts or not
-abbrev pub met_by : Edge → Point → Met
-met_by e p = record { on = is_on_edge e p; crossing = cond (is_on_edge e p) 0 (crossing e p) }
-
--- the sums of a * d and of b * c
-unfoldable pub plus_of : List Edge → ℕ
-plus_of [] = 0
-plus_of (e ∷ es) = e.a * e.d + plus_of es
-
-unfoldable pub minus_of : List Edge → ℕ
-minus_of [] = 0
-minus_of (e ∷ es) = e.b * e.c + minus_of es
-
-abbrev pub products_of : List Edge → Products
-products_of es = record { plus = plus_of es; minus = minus_of es }
+-- nothing where the point is on the edge, or else whether the edge counts
+abbrev pub met_by : Edge → Point → Option Bool
+met_by e p = cond (is_on_edge e p) None (Some (counts e p))

@@ -1,97 +1,132 @@
 // The words of an outline: their refusals, and the edges that they make up.
-ghost use Rattle.std.specs.Prelude.{◌≡◌, ◌∷◌, ◌+◌, ◌/◌, ◌≤◌, ◌<◌, length};
-ghost use Rattle.outline.specs.Outline.{edge};
-ghost use Rattle.outline.specs.Refusals.{ACCEPTED, wrong_count, within, outline_refusal};
-ghost use Rattle.outline.specs.Steps.{MOST_WORDS, point_at, edge_at, EdgeWithin};
+ghost use Rattle.std.specs.Prelude.{◌≡◌, ◌≤◌, length};
+ghost use Rattle.std.specs.Iterator.{YieldsFirst, item_count};
+ghost use Rattle.outline.specs.Outline.{MOST_POINTS};
+ghost use Rattle.outline.specs.Refusals.{wrong_count, within};
+ghost use Rattle.outline.specs.Steps.{outline_of, closing_first};
 
-use super::{ACCEPTED, COORDINATE_TOO_LARGE, Edge, FARTHEST, POINT_COUNT, Point};
+use super::{Coordinate, Edge, FARTHEST, Point};
+use refusals::Refusal;
+use std::marker::Model;
 
 const FEWEST_POINTS: usize = 3;
 
 const MOST_POINTS: usize = 64;
 
 // The number of words makes up no outline.
+#[tactic(auto, unfolding(crate::specs::Refusals::wrong_count))]
 fn is_wrong_count(words: usize) -> bool
     ensures { result ≡ wrong_count words }
 {
-    if words % 2 == 1 {
-        return true;
-    }
-    if words / 2 < FEWEST_POINTS {
-        return true;
-    }
-    words / 2 > MOST_POINTS
+    words % 2 == 1 || words / 2 < FEWEST_POINTS || words / 2 > MOST_POINTS
 }
 
-// No word is above the largest coordinate. All are counted: a loop that ends at the first cannot take several words at once.
+// No word is above the largest coordinate. All are tested: a walk that ends at the first such word cannot take several at once.
 fn are_within(words: &[u32]) -> bool
-    requires { length words.now ≤ MOST_WORDS }
     ensures { result ≡ within words.now }
 {
-    let mut beyond: u32 = 0;
-    let mut i: usize = 0;
-    while i < words.len() {
-        beyond += (words[i] > FARTHEST) as u32;
-        i += 1;
-    }
-    beyond == 0
+    words
+        .iter()
+        .fold(true, |within, word| within & (*word <= FARTHEST))
 }
 
-pub fn refused(words: &[u32]) -> u32
-    ensures { result ≡ outline_refusal words.now words.now }
-{
-    if is_wrong_count(words.len()) {
-        return POINT_COUNT;
-    }
-    if are_within(words) {
-        return ACCEPTED;
-    }
-    COORDINATE_TOO_LARGE
+/// The points of words that are not refused.
+#[derive(Drop)]
+pub struct Outline<'a> {
+    words: &'a [u32],
 }
 
-// An outline and a point: the outline's words are tested first.
-#[tactic(auto, using(crate::proofs::Answers::refusal_beyond_x, crate::proofs::Answers::refusal_beyond_y))]
-pub fn refused_with(words: &[u32], p: Point) -> u32
-    ensures { result ≡ outline_refusal words.now (p.x ∷ (p.y ∷ words.now)) }
-{
-    let refusal = refused(words);
-    if refusal != ACCEPTED {
-        return refusal;
-    }
-    if p.x > FARTHEST {
-        return COORDINATE_TOO_LARGE;
-    }
-    if p.y > FARTHEST {
-        return COORDINATE_TOO_LARGE;
-    }
-    ACCEPTED
+impl<'a> Model for Outline<'a> {
+    ghost use Rattle.std.specs.Prelude.{List, ◌≡◌};
+    ghost use Rattle.outline.specs.declared.Point.{Point};
+    ghost use Rattle.outline.specs.Outline.{points};
+    ghost use Rattle.outline.specs.Refusals.{ACCEPTED, outline_refusal};
+
+    ghost Value = { List Point };
+
+    ghost view = { λ o. points o.words.now };
+
+    ghost invariant = { λ o. outline_refusal o.words.now o.words.now ≡ ACCEPTED };
 }
 
-// From the point whose words begin at one place to that whose words begin at another.
-fn edge_between(words: &[u32], from: usize, to: usize) -> Edge
-    requires from { from + 1 < length words.now }
-    requires to { to + 1 < length words.now }
-    ensures { result ≡ edge (point_at words.now from) (point_at words.now to) }
-{
-    Edge {
-        a: words[from],
-        b: words[from + 1],
-        c: words[to],
-        d: words[to + 1],
+impl<'a> Outline<'a> {
+    pub fn read(words: &'a [u32]) -> Result<Outline<'a>, Refusal>
+        ensures { result ≡ outline_of words.now }
+    {
+        if is_wrong_count(words.len()) {
+            return Err(Refusal::PointCount);
+        }
+        if !are_within(words) {
+            return Err(Refusal::CoordinateTooLarge);
+        }
+        Ok(Outline { words })
+    }
+
+    /// The edges in turn, from the one that closes the outline.
+    pub fn edges(&self) -> Edges<'a>
+        ensures edges { result ≡ closing_first self.now }
+        ensures most { length result ≤ MOST_POINTS }
+    {
+        let last = self.words.len() - 2;
+        let from = Point {
+            x: Coordinate {
+                value: self.words[last],
+            },
+            y: Coordinate {
+                value: self.words[last + 1],
+            },
+        };
+        Edges {
+            from,
+            words: self.words,
+        }
     }
 }
 
-// Edge i, from 0; the last one goes to the first point.
-pub fn edge_at(words: &[u32], i: usize) -> Edge
-    requires accepted { outline_refusal words.now words.now ≡ ACCEPTED }
-    requires index { i < length words.now / 2 }
-    ensures edge { result ≡ edge_at words.now i }
-    ensures within { EdgeWithin result }
-{
-    let from = 2 * i;
-    let next = from + 2;
-    if next < words.len() {
-        return edge_between(words, from, next);
+/// The edges from a point to that of the first two words, from there to that of the next two, and so on.
+#[derive(Drop)]
+pub struct Edges<'a> {
+    from: Point,
+    words: &'a [u32],
+}
+
+impl<'a> Model for Edges<'a> {
+    ghost use Rattle.std.specs.Prelude.{List, ◌≡◌, true};
+    ghost use Rattle.outline.specs.declared.Edge.{Edge};
+    ghost use Rattle.outline.specs.Outline.{points};
+    ghost use Rattle.outline.specs.Refusals.{within};
+    ghost use Rattle.outline.specs.Steps.{edges_to};
+
+    ghost Value = { List Edge };
+
+    ghost view = { λ e. edges_to e.from (points e.words.now) };
+
+    ghost invariant = { λ e. within e.words.now ≡ true };
+}
+
+impl<'a> Iterator for Edges<'a> {
+    type Item = Edge;
+
+    ghost next_gives = { YieldsFirst (λ edges. edges) };
+
+    ghost remaining = { item_count (λ edges. edges) };
+
+    fn next(&mut self) -> Option<Edge> {
+        let [x, y, rest @ ..] = self.words else {
+            return None;
+        };
+        let to = Point {
+            x: Coordinate { value: *x },
+            y: Coordinate { value: *y },
+        };
+        let edge = Edge {
+            a: self.from.x,
+            b: self.from.y,
+            c: to.x,
+            d: to.y,
+        };
+        self.from = to;
+        self.words = rest;
+        Some(edge)
     }
-    edge_between(words, from, 0)
 }

@@ -1,23 +1,17 @@
--- The refusal, or the place's number.
-use mathlib.Core.Path.{sym, ap, ◌∙◌}
-use Prim.Native.Nat.{ℕ}
-use Rattle.outline.proofs.Answers.{accepted-both, point-refused, point-accepted}
+-- The refusal of the words or of the point, or the place.
+use Rattle.std.proofs.lemmas.Result.{err_from_is_err_and}
+use Rattle.outline.proofs.Answers.{point-err, point-beyond, point-ok}
 use Rattle.outline.proofs.outline_point.Goals as goal
 
-pub returns-then-refusal-ne-ACCEPTED : goal.returns-then-refusal-ne-ACCEPTED
-returns-then-refusal-ne-ACCEPTED c =
-    let a = c.args in
-    point-refused a.words.now a.x a.y c.refused_with-refusal.result c.refused_with-refusal.ensures c.if-refusal-ne-ACCEPTED.true
+pub returns-in_err-outline : goal.returns-in_err-outline
+returns-in_err-outline c =
+    let p = err_from_is_err_and c.from_residual.result c.from_residual.ensures.1 in
+    rw (p.1, p.2) (point-err _ _ _ _ c.in_err-outline.ensures)
 
-pub place_of-place-requires : goal.place_of-place-requires
-place_of-place-requires c =
-    let a = c.args in
-    let both = accepted-both a.words.now a.x a.y (sym c.refused_with-refusal.ensures ∙ c.if-refusal-ne-ACCEPTED.false) in
-    record { accepted = both.0; point = both.1 }
+pub returns-in_err-point : goal.returns-in_err-point
+returns-in_err-point c =
+    let p = err_from_is_err_and c.from_residual-in_err-point.result c.from_residual-in_err-point.ensures.1 in
+    rw (p.1, p.2) (point-beyond _ _ _ _ _ c.in_ok-outline.ensures c.in_err-point.ensures)
 
 pub returns : goal.returns
-returns c =
-    let a = c.args in
-    let fine = sym c.refused_with-refusal.ensures ∙ c.if-refusal-ne-ACCEPTED.false in
-    ap (λ (n : ℕ). record { refusal = 0; place = n }) c.number_of.ensures
-    ∙ point-accepted a.words.now a.x a.y fine _ c.place_of-place.ensures
+returns c = point-ok _ _ _ _ _ _ c.in_ok-outline.ensures c.in_ok-point.ensures c.place_of.ensures

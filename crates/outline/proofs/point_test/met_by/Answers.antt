@@ -1,35 +1,31 @@
 -- Away from the edge's heights, in line with it, or to one of its sides.
-use mathlib.Core.Path.{◌≡◌, sym, ap, ◌∙◌}
-use mathlib.Core.Bool.{Bool, false}
+use Prim.Native.Nat.{◌<◌}
+use mathlib.Core.Path.{◌≡◌, sym, ap, subst, ◌∙◌}
 use native.Mathlib.Omega.{arith}
+use Rattle.std.specs.Prelude.{Some}
 use Rattle.outline.specs.declared.point_test.Sides.{Sides}
-use Rattle.outline.specs.Steps.{left, right}
-use Rattle.outline.proofs.Testing.{met_of, not-along, in-line, off-line}
+use Rattle.outline.proofs.Testing.{not-along, on-it, beside-it, on-right, on-left, lt-is}
 use Rattle.outline.proofs.point_test.met_by.Goals as goal
 
 pub returns-then-not-is_between : goal.returns-then-not-is_between
-returns-then-not-is_between c =
-    let a = c.args in
-    record { met = not-along a.e a.p (sym c.is_between.ensures ∙ c.if-not-is_between.true); most = omega arith }
+returns-then-not-is_between c = not-along _ _ (sym c.if-not-is_between.ensures)
 
-pub returns-then-s : goal.returns-then-s
-returns-then-s c =
-    let sides = c.sides_of-s.ensures in
-    let at = c in
-    let a = at.args in
-    let along = sym at.is_between.ensures ∙ c.if-not-is_between.false in
-    let line = ap (λ (s : Sides). s.left) (sym sides) ∙ c.if-s.true ∙ ap (λ (s : Sides). s.right) sides in
-    record { met = ap (λ (b : Bool). met_of b 0) c.is_between-then-s.ensures ∙ in-line a.e a.p along line; most = omega arith }
+pub returns-then-is_between : goal.returns-then-is_between
+returns-then-is_between c =
+    let line = subst (λ (s : Sides). s.left ≡ s.right) c.sides_of-sides.ensures c.if-sides.true in
+    on-it _ _ (sym c.if-not-is_between.ensures) line (sym c.if-is_between.ensures)
 
-pub crossing_of-requires : goal.crossing_of-requires
-crossing_of-requires c = record { height = sym c.is_between.ensures ∙ c.if-not-is_between.false; sides = c.sides_of-s.ensures }
+pub returns-else-is_between : goal.returns-else-is_between
+returns-else-is_between c =
+    let line = subst (λ (s : Sides). s.left ≡ s.right) c.sides_of-sides.ensures c.if-sides.true in
+    beside-it _ _ (sym c.if-not-is_between.ensures) line (sym c.if-is_between.ensures)
 
-pub returns : goal.returns
-returns c =
-    let sides = c.sides_of-s.ensures in
-    let at = c in
-    let a = at.args in
-    let along = sym at.is_between.ensures ∙ c.if-not-is_between.false in
-    let off : left a.e a.p ≡ right a.e a.p → ⊥ =
-    λ n. c.if-s.false (ap (λ (s : Sides). s.left) sides ∙ n ∙ ap (λ (s : Sides). s.right) (sym sides)) in
-    record { met = ap (met_of false) c.crossing_of.ensures.crossing ∙ off-line a.e a.p along off; most = c.crossing_of.ensures.most }
+pub returns-then-sides-2 : goal.returns-then-sides-2
+returns-then-sides-2 c =
+    let less = subst (λ (s : Sides). s.left < s.right) c.sides_of-sides.ensures c.if-sides-2.true in
+    ap Some (c.lt.ensures ∙ lt-is _ _) ∙ on-right _ _ (sym c.if-not-is_between.ensures) less
+
+pub returns-else-sides-2 : goal.returns-else-sides-2
+returns-else-sides-2 c =
+    let more = subst (λ (s : Sides). s.right < s.left) c.sides_of-sides.ensures (omega arith) in
+    ap Some (c.lt-else-sides-2.ensures ∙ lt-is _ _) ∙ on-left _ _ (sym c.if-not-is_between.ensures) more

@@ -1,27 +1,16 @@
--- Those beyond the range among the words passed, and the test of the words left, make up the test of all.
-use mathlib.Core.Path.{refl, sym, ◌∙◌}
-use native.Mathlib.Omega.{arith}
-use lib.Dec.{ltb}
-use lib.ListN.{get_or}
+-- The fold is the test of all words.
+use mathlib.Core.Path.{◌∙◌}
+use mathlib.Core.Bool.{true, ◌&&◌}
+use lib.Dec.{leb}
+use borrow.Author.Tests.{tests}
+use Rattle.std.proofs.Common.{rules}
+use Rattle.std.proofs.lemmas.Iterator.{YieldsList-from_slice}
+use Rattle.std.proofs.lemmas.Iterator.Consumers.{fold_from_yields_List}
 use Rattle.outline.specs.Outline.{FARTHEST}
-use Rattle.outline.proofs.Tests.{byte-most}
-use Rattle.outline.proofs.Indexed.{within_step, within_end}
+use Rattle.outline.proofs.Indexed.{within_fold}
 use Rattle.outline.proofs.words.are_within.Goals as goal
 
-pub loop-i-init : goal.loop-i-init
-loop-i-init c = (omega arith, refl)
-
-pub overflow_add-beyond : goal.overflow_add-beyond
-overflow_add-beyond c =
-    let ws = c.args.words.now in
-    let at = c.loop-i in
-    omega (arith, at.invariant.0, c.requires, byte-most (ltb FARTHEST (get_or ws at.i 0)))
-
-pub loop-i-preserved : goal.loop-i-preserved
-loop-i-preserved c =
-    let ws = c.args.words.now in
-    let at = c.loop-i in
-    (omega (arith, at.invariant.0, byte-most (ltb FARTHEST (get_or ws at.i 0))), within_step ws at.i at.beyond (omega arith) ∙ at.invariant.1)
-
 pub returns : goal.returns
-returns c = let at = c.loop-i in sym (within_end c.args.words.now at.i at.beyond (omega arith)) ∙ at.invariant.1
+returns c =
+    fold_from_yields_List _ (λ t w. t && leb w FARTHEST) true c.fold.result c.fold.ensures.ran (YieldsList-from_slice c.args.words.now (cc)) (λ a x b q k. search (rules, tests))
+    ∙ within_fold _
