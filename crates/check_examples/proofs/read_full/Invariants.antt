@@ -1,9 +1,0 @@
--- The text keeps its length, and each turn reads more of it.
-use Rattle.std.specs.Prelude.{◌≤◌, ◌-◌, ◌≡◌, length}
-use Rattle.check_examples.proofs.read_full.Given as goal
-
-abbrev pub invariant-loop-n : goal.invariant-loop-n
-invariant-loop-n g l = (l.n ≤ length l.text) × (length l.text ≡ length l.initial.text)
-
-abbrev pub decreases-loop-n : goal.decreases-loop-n
-decreases-loop-n g l = length l.initial.text - l.n
