@@ -158,7 +158,8 @@ pub fn entry_of(page: &[u32; PAGE_WORDS], i: usize) -> Entry
 // The first n entries of a page's words.
 pub fn entries_of(page: &[u32; PAGE_WORDS], n: usize) -> PageEntries<'_>
     requires { n ≤ FANOUT }
-    ensures { left result ≡ entries_in page.now n }
+    ensures items { left result ≡ entries_in page.now n }
+    ensures count { length (left result) ≡ n }
 {
     PageEntries {
         page,

@@ -10,4 +10,4 @@ pub returns : goal.returns
 returns c =
     fold_from_yields_List _ (λ b e. widen b e.rect) _ _ c.fold.ensures.ran (YieldsList-from_first (λ x. x) left _ refl) (λ a x b q k. search rules)
     ∙ bounds-folded _ _ c.in-Some.first c.in-Some.ensures.steps
-    ∙ ap bounds c.entries_of-entries.ensures
+    ∙ ap bounds c.entries_of-entries.ensures.items
