@@ -1,9 +1,10 @@
 -- The steps on words are the steps on pages.
-use Prim.Native.Nat.{ℕ, ◌+◌, ◌≤◌, ◌<◌}
+use Prim.Native.Nat.{ℕ, ◌+◌, ◌-◌, ◌≤◌, ◌<◌}
 use native.Mathlib.Omega.{arith}
 use native.Mathlib.Decide.{dec_lt}
 use mathlib.Core.Path.{◌≡◌, refl, sym, ap, ◌∙◌, subst}
-use mathlib.Core.Bool.{true, false, cond}
+use mathlib.Core.Bool.{Bool, true, false, cond}
+use Rattle.std.specs.Prelude.{Option, Some, None}
 use mathlib.Core.List.{List, [], ◌∷◌, ◌++◌}
 use lib.ListN.{length, get_or, take, drop, set, length-append, length-set}
 use lib.Dec.{ltb}
@@ -14,19 +15,24 @@ use Rattle.pages.specs.Layout.{Page, page_of, page_at, encode_page, page_words}
 use Rattle.pages.specs.Readers.{entries_in}
 use Rattle.pages.proofs.Round.{level-word, count_word}
 use Rattle.placing.specs.Place.{ordered, STAY, Step, step_of, fill}
-use Rattle.placing.specs.Steps.{appended, put_page, split_into, Written, written_of, add_to}
+use Rattle.pages.specs.Writes.{put_page}
+use Rattle.placing.specs.Steps.{appended, split_into, Written, add_to}
 use Rattle.placing.proofs.PageWords.{all_in, appended-is}
 use Rattle.placing.proofs.TableWords.{tabled, pages-word, page-words, page-set, page-append}
 
+-- the page that a step split off, if one was, is the last
+abbrev pub part : Bool → List Page → Option ℕ
+part b ps = cond b (Some (length ps - 1)) None
+
 -- the words of a step
 abbrev pub written : ℕ → ℕ → List ℕ → Step → Written
-written a c rest s = written_of (tabled a c s.pages rest) s.split
+written a c rest s = (part s.split s.pages, tabled a c s.pages rest)
 
 -- the definitions, one step opened
 
 add_open : (t : List ℕ) (p : ℕ) (e : Entry) → add_to t p e
-    ≡ cond (ltb (get_or (page_words t p) 1 0) FANOUT) (written_of (put_page t p (appended (page_words t p) e)) false)
-    (cond (ltb (get_or t 0 0) PAGES) (written_of (set (split_into t p (get_or t 0 0) e) 0 (get_or t 0 0 + 1)) true) (written_of t false))
+    ≡ cond (ltb (get_or (page_words t p) 1 0) FANOUT) (None, put_page t p (appended (page_words t p) e))
+    (cond (ltb (get_or t 0 0) PAGES) (Some (get_or t 0 0), set (split_into t p (get_or t 0 0) e) 0 (get_or t 0 0 + 1)) (None, t))
 unfolding add_to
 add_open t p e = refl
 
@@ -67,7 +73,7 @@ module _ (a c : ℕ) (ps : List Page) (rest : List ℕ) (p : ℕ) (e : Entry) (p
   abbrev es : List Entry
   es = g.entries ++ (e ∷ [])
 
-  add_kept : length g.entries < FANOUT → add_to w p e ≡ written_of (tabled a c (set ps p (page_of g.level es)) rest) false
+  add_kept : length g.entries < FANOUT → add_to w p e ≡ (None, tabled a c (set ps p (page_of g.level es)) rest)
   add_kept l = add_open w p e ∙ rw (page-words a c ps rest p small, count_word g, lt-ltb (length g.entries) FANOUT l, appended-is g e l, page-set a c ps rest p (page_of g.level es) pl small)
 
   abbrev low : Page
@@ -81,7 +87,7 @@ module _ (a c : ℕ) (ps : List Page) (rest : List ℕ) (p : ℕ) (e : Entry) (p
       let all8 : entries_in (encode_page g) FANOUT ≡ g.entries = ap (entries_in (encode_page g)) (sym f) ∙ all_in g (omega arith) in
       split-open w p (length ps) e ∙ rw (page-words a c ps rest p small, level-word g, all8, page-set a c ps rest p low pl small)
 
-  add-cut : length g.entries ≡ FANOUT → length ps < PAGES → add_to w p e ≡ written_of (tabled a c (set ps p low ++ (high ∷ [])) rest) true
+  add-cut : length g.entries ≡ FANOUT → length ps < PAGES → add_to w p e ≡ (Some (length ps), tabled a c (set ps p low ++ (high ∷ [])) rest)
   add-cut f l =
       let k : length (set ps p low) ≡ length ps = length-set ps p low in
       let more : set (put_page (tabled a c (set ps p low) rest) (length ps) (encode_page high)) 0 (length ps + 1) ≡ tabled a c (set ps p low ++ (high ∷ [])) rest =
@@ -95,4 +101,6 @@ module _ (a c : ℕ) (ps : List Page) (rest : List ℕ) (p : ℕ) (e : Entry) (p
       go (yes l) = add_kept l ∙ ap (written a c rest) (sym (fill-kept p es ps (omega (arith, length-append g.entries (e ∷ [])))))
       go (no l) =
           let s : fill p es ps ≡ step_of (set ps p low ++ (high ∷ [])) true = fill-cut p es ps (omega (arith, length-append g.entries (e ∷ []))) in
-          add-cut (omega arith) (omega (arith, ap (λ x. length x.pages) s, length-append (set ps p low) (high ∷ []), length-set ps p low)) ∙ ap (written a c rest) (sym s)
+          let k : length ps ≡ length (set ps p low ++ (high ∷ [])) - 1 = omega (arith, length-append (set ps p low) (high ∷ []), length-set ps p low) in
+          add-cut (omega arith) (omega (arith, ap (λ x. length x.pages) s, length-append (set ps p low) (high ∷ []), length-set ps p low))
+          ∙ (ap (λ n. (Some n, tabled a c (set ps p low ++ (high ∷ [])) rest)) k ∙ ap (written a c rest) (sym s))

@@ -4,6 +4,7 @@ use native.Mathlib.Omega.{arith}
 use mathlib.Core.Path.{◌≡◌, refl, sym, ap, ◌∙◌, subst}
 use mathlib.Core.Logic.{◌≢◌}
 use mathlib.Core.Bool.{Bool, true, false, cond}
+use Rattle.std.specs.Prelude.{Some, None}
 use mathlib.Core.List.{List, [], ◌∷◌, ◌++◌, append-nil}
 use lib.ListN.{length, get_or, set, length-set}
 use lib.Seq.{get_or-set_same, get_or-set_other, set-set}
@@ -17,12 +18,13 @@ use Rattle.pages.specs.Layout.{Page, page_of, no_entry, no_page, page_at, encode
 use Rattle.pages.specs.Readers.{entry_in}
 use Rattle.pages.proofs.Cells.{entry-in}
 use Rattle.placing.specs.Place.{choose, Step, step_of, fill, entry_for, renew, down}
-use Rattle.placing.specs.Steps.{entry_set, put_page, written_of, add_to, entry_for_in, reset_entry, widened_by, widen_entry, settled, chosen_in, place_at}
+use Rattle.pages.specs.Writes.{put_page}
+use Rattle.placing.specs.Steps.{entry_set, Written, add_to, entry_for_in, reset_entry, widened_by, widen_entry, parted, settled, chosen_in, place_at}
 use Rattle.placing.proofs.Fill.{spread, choose-below}
 use Rattle.placing.proofs.Keeps.{After, Before, child, child-in, child-level, child-around, one-T, after}
 use Rattle.placing.proofs.PageWords.{filled-in, entry-set}
-use Rattle.placing.proofs.TableWords.{tabled, pages-word, page-words, entry-for, page-set}
-use Rattle.placing.proofs.Adding.{written, fill-kept, fill-grows, add-fill}
+use Rattle.placing.proofs.TableWords.{tabled, page-words, entry-for, page-set}
+use Rattle.placing.proofs.Adding.{part, written, fill-kept, fill-grows, add-fill}
 
 -- the definitions, one step opened
 
@@ -34,10 +36,12 @@ widen-open : (t : List ℕ) (p i : ℕ) (new : Rect) → widen_entry t p i new �
 unfolding widen_entry
 widen-open t p i new = refl
 
-settle-open : (p i q : ℕ) (new : Rect) (t : List ℕ) (b : Bool) → settled p i q new (written_of t b)
-    ≡ cond b (add_to (reset_entry t p i q) p (entry_for_in (reset_entry t p i q) (get_or (reset_entry t p i q) 0 0 - 1))) (written_of (widen_entry t p i new) false)
-unfolding settled
-settle-open p i q new t b = refl
+parted-open : (p i q k : ℕ) (t : List ℕ) → parted p i q k t ≡ add_to (reset_entry t p i q) p (entry_for_in (reset_entry t p i q) k)
+unfolding parted
+parted-open p i q k t = refl
+
+abbrev settle : ℕ → ℕ → ℕ → Rect → Written → Written
+settle p i q new s = settled p i q new s.0 s.1
 
 renew-open : (es : List Entry) (i : ℕ) (s : Step) → renew es i s
     ≡ set es i (entry_for (get_or es i no_entry).r s.pages) ++ cond s.split (entry_for (length s.pages - 1) s.pages ∷ []) []
@@ -95,10 +99,8 @@ module _ (a c : ℕ) (rest : List ℕ) (s : Step) (new : Rect) (p i : ℕ) (pl :
     widen-is = widen-open (tabled a c ps rest) p i new
         ∙ (ap (λ y. put_page (tabled a c ps rest) p (entry_set (page_words (tabled a c ps rest) p) i y)) widened ∙ (sym (reset-open (tabled a c ps rest) p i q) ∙ reset-is))
 
-    settle-whole : settled p i q new (written_of (tabled a c ps rest) false) ≡ written a c rest (fill p es ps)
-    settle-whole =
-        settle-open p i q new (tabled a c ps rest) false
-        ∙ (ap (λ t. written_of t false) widen-is ∙ ap (written a c rest) (sym (fill-kept p es ps (omega (arith, length-set g.entries i (entry_for q ps), eight p pl)))))
+    settle-whole : settle p i q new (None, tabled a c ps rest) ≡ written a c rest (fill p es ps)
+    settle-whole = ap (λ t. (None, t)) widen-is ∙ ap (written a c rest) (sym (fill-kept p es ps (omega (arith, length-set g.entries i (entry_for q ps), eight p pl))))
 
   -- the last page is not p
   module _ (n : length ps - 1 ≢ p) where
@@ -114,19 +116,16 @@ module _ (a c : ℕ) (rest : List ℕ) (s : Step) (new : Rect) (p i : ℕ) (pl :
     here : page_at qs p ≡ page_of g.level es
     here = get_or-set_same ps p (page_of g.level es) no_page pl
 
-    last-is : entry_for_in (tabled a c qs rest) (get_or (tabled a c qs rest) 0 0 - 1) ≡ y
-    last-is =
-        let e : get_or (tabled a c qs rest) 0 0 - 1 ≡ m = omega (arith, pages-word a c qs rest, length-set ps p (page_of g.level es)) in
-        ap (entry_for_in (tabled a c qs rest)) e
-        ∙ (entry-for a c qs rest m (omega arith) (subst (λ x. length x.entries ≤ FANOUT) (sym same-last) (eight m (omega arith))) ∙ same-entry m ps qs same-last)
+    last-is : entry_for_in (tabled a c qs rest) m ≡ y
+    last-is = entry-for a c qs rest m (omega arith) (subst (λ x. length x.entries ≤ FANOUT) (sym same-last) (eight m (omega arith))) ∙ same-entry m ps qs same-last
 
     fill_is : fill p ((page_at qs p).entries ++ (y ∷ [])) qs ≡ fill p (es ++ (y ∷ [])) ps
     fill_is = ap (λ x. fill p (x.entries ++ (y ∷ [])) qs) here ∙ refill p (es ++ (y ∷ [])) ps (page_of g.level es) pl refl
 
-    settle-split : length (fill p (es ++ (y ∷ [])) ps).pages ≤ PAGES → settled p i q new (written_of (tabled a c ps rest) true) ≡ written a c rest (fill p (es ++ (y ∷ [])) ps)
+    settle-split : length (fill p (es ++ (y ∷ [])) ps).pages ≤ PAGES → settle p i q new (Some m, tabled a c ps rest) ≡ written a c rest (fill p (es ++ (y ∷ [])) ps)
     settle-split h =
-        settle-open p i q new (tabled a c ps rest) true
-        ∙ (ap (λ t. add_to t p (entry_for_in t (get_or t 0 0 - 1))) reset-is
+        parted-open p i q m (tabled a c ps rest)
+        ∙ (ap (λ t. add_to t p (entry_for_in t m)) reset-is
         ∙ (ap (add_to (tabled a c qs rest) p) last-is
         ∙ (add-fill a c qs rest p y (omega (arith, length-set ps p (page_of g.level es))) (omega arith)
         (omega (arith, ap (λ x. length x.entries) here, length-set g.entries i (entry_for q ps), eight p pl))
@@ -134,11 +133,11 @@ module _ (a c : ℕ) (rest : List ℕ) (s : Step) (new : Rect) (p i : ℕ) (pl :
         ∙ ap (written a c rest) fill_is)))
 
   settle-fill : (T s.split → length ps - 1 ≢ p) → length (fill p (renew g.entries i s) ps).pages ≤ PAGES → spread q s ≡ widen x.rect new
-      → settled p i q new (written a c rest s) ≡ written a c rest (fill p (renew g.entries i s) ps)
+      → settle p i q new (written a c rest s) ≡ written a c rest (fill p (renew g.entries i s) ps)
   settle-fill = go s.split (renew g.entries i s) (renew-open g.entries i s)
     where
       go : (b : Bool) (fs : List Entry) → fs ≡ es ++ cond b (entry_for (length ps - 1) ps ∷ []) [] → (T b → length ps - 1 ≢ p) → length (fill p fs ps).pages ≤ PAGES
-          → spread q (step_of ps b) ≡ widen x.rect new → settled p i q new (written_of (tabled a c ps rest) b) ≡ written a c rest (fill p fs ps)
+          → spread q (step_of ps b) ≡ widen x.rect new → settle p i q new (part b ps, tabled a c ps rest) ≡ written a c rest (fill p fs ps)
       go true fs e n h w = settle-split (n tt) (omega (arith, ap (λ z. length (fill p z ps).pages) e)) ∙ ap (λ z. written a c rest (fill p z ps)) (sym e)
       go false fs e n h w = settle-whole w ∙ ap (λ z. written a c rest (fill p z ps)) (sym (e ∙ append-nil es))
 
@@ -151,26 +150,26 @@ unfolding place_at
 leaf-open t p e l = rw (lt-ltb p PAGES l)
 
 above_open : (l : ℕ) (t : List ℕ) (p : ℕ) (e : Entry) → place_at (suc l) t p e
-    ≡ cond (ltb p PAGES) (settled p (chosen_in (page_words t p) e.rect) (entry_in (page_words t p) (chosen_in (page_words t p) e.rect)).r e.rect
-    (place_at l t (entry_in (page_words t p) (chosen_in (page_words t p) e.rect)).r e)) (written_of t false)
+    ≡ cond (ltb p PAGES) (settle p (chosen_in (page_words t p) e.rect) (entry_in (page_words t p) (chosen_in (page_words t p) e.rect)).r e.rect
+    (place_at l t (entry_in (page_words t p) (chosen_in (page_words t p) e.rect)).r e)) (None, t)
 unfolding place_at
 above_open l t p e = refl
 
 above_in : (l : ℕ) (t : List ℕ) (p : ℕ) (e : Entry) → p < PAGES → (i j : ℕ) → chosen_in (page_words t p) e.rect ≡ i → (entry_in (page_words t p) i).r ≡ j
-    → place_at (suc l) t p e ≡ settled p i j e.rect (place_at l t j e)
+    → place_at (suc l) t p e ≡ settle p i j e.rect (place_at l t j e)
 above_in l t p e h i j ei ej =
     above_open l t p e
-    ∙ rw (lt-ltb p PAGES h) (ap (λ k. settled p k (entry_in (page_words t p) k).r e.rect (place_at l t (entry_in (page_words t p) k).r e)) ei
-    ∙ ap (λ k. settled p i k e.rect (place_at l t k e)) ej)
+    ∙ rw (lt-ltb p PAGES h) (ap (λ k. settle p k (entry_in (page_words t p) k).r e.rect (place_at l t (entry_in (page_words t p) k).r e)) ei
+    ∙ ap (λ k. settle p i k e.rect (place_at l t k e)) ej)
 
-down-leaf : (p : ℕ) (e : Entry) (ps : List Page) → down zero p e ps ≡ fill p ((page_at ps p).entries ++ (e ∷ [])) ps
+down-leaf : (p : ℕ) (e : Entry) (gs : List Page) → down zero p e gs ≡ fill p ((page_at gs p).entries ++ (e ∷ [])) gs
 unfolding down
-down-leaf p e ps = refl
+down-leaf p e gs = refl
 
-down-above : (l p : ℕ) (e : Entry) (ps : List Page) → let i : ℕ = choose e.rect (page_at ps p).entries in let s : Step = down l (child ps p i) e ps in
-    down (suc l) p e ps ≡ fill p (renew (page_at ps p).entries i s) s.pages
+down-above : (l p : ℕ) (e : Entry) (gs : List Page) → let i : ℕ = choose e.rect (page_at gs p).entries in let s : Step = down l (child gs p i) e gs in
+    down (suc l) p e gs ≡ fill p (renew (page_at gs p).entries i s) s.pages
 unfolding down
-down-above l p e ps = refl
+down-above l p e gs = refl
 
 -- the step into the child at place i left s
 module _ (a c : ℕ) (rest : List ℕ) (ps : List Page) (B : Before ps) (l p i : ℕ) (e : Entry) (pl : p < length ps) (lv : (page_at ps p).level ≡ suc l)
@@ -179,10 +178,10 @@ module _ (a c : ℕ) (rest : List ℕ) (ps : List Page) (B : Before ps) (l p i :
   same_here = A.frame p pl (λ h. omega (arith, ap (λ x. (page_at ps x).level) h, lv, child-level ps B l p i pl lv il)) (omega arith)
 
   above-settled : length (fill p (renew (page_at ps p).entries i s) s.pages).pages ≤ PAGES
-      → settled p i (child ps p i) e.rect (written a c rest s) ≡ written a c rest (fill p (renew (page_at ps p).entries i s) s.pages)
+      → settle p i (child ps p i) e.rect (written a c rest s) ≡ written a c rest (fill p (renew (page_at ps p).entries i s) s.pages)
   above-settled most = subst (λ g. length (fill p (renew g.entries i s) s.pages).pages ≤ PAGES
       → spread (get_or g.entries i no_entry).r s ≡ widen (get_or g.entries i no_entry).rect e.rect
-      → settled p i (get_or g.entries i no_entry).r e.rect (written a c rest s) ≡ written a c rest (fill p (renew g.entries i s) s.pages)) same_here
+      → settle p i (get_or g.entries i no_entry).r e.rect (written a c rest s) ≡ written a c rest (fill p (renew g.entries i s) s.pages)) same_here
       (settle-fill a c rest s e.rect p i (omega (arith, A.grown)) (omega (arith, fill-grows p (renew (page_at ps p).entries i s) s.pages))
       (omega (arith, ap (λ g. length g.entries) same_here)) A.eight
       (omega (arith, ap (λ g. (get_or g.entries i no_entry).r) same_here, child-in ps B l p i pl lv il, A.grown))
@@ -211,5 +210,5 @@ place_down a c rest (suc l) p e ps B pl lv most =
     let pw : page_words w p ≡ encode_page g = page-words a c ps rest p small in
     above_in l w p e small i q (ap (λ v. chosen_in v e.rect) pw ∙ chosen_is g e.rect (B.eight p pl))
     (ap (λ v. (entry_in v i).r) pw ∙ ap (λ x. x.r) (entry-in g i (omega (arith, B.eight p pl))))
-    ∙ (ap (settled p i q e.rect) (place_down a c rest l q e ps B (child-in ps B l p i pl lv il) (child-level ps B l p i pl lv il) few)
+    ∙ (ap (settle p i q e.rect) (place_down a c rest l q e ps B (child-in ps B l p i pl lv il) (child-level ps B l p i pl lv il) few)
     ∙ (above-settled a c rest ps B l p i e pl lv il s A fits ∙ ap (written a c rest) (sym d)))

@@ -26,19 +26,21 @@ use Rattle.soundness.proofs.Words as slice
 use Rattle.placing.specs.Place.{Step, entry_for, new_root, place}
 use Rattle.placing.specs.Calls.{placed_words}
 use Rattle.placing.specs.Claims.{held}
-use Rattle.placing.specs.Steps.{put_page, Written, written_of, entry_for_in, place_at, root_made, place_in, held_in, held_below}
+use Rattle.pages.specs.Writes.{put_page}
+use Rattle.placing.specs.Steps.{Written, entry_for_in, place_at, root_made, topped, place_in, held_in, held_below}
 use Rattle.placing.proofs.Placed.{before, root_step, root-after, place-sound, place-holds}
 use Rattle.placing.proofs.PageWords.{filled-in}
 use Rattle.placing.proofs.TableWords.{tabled, tabled-in, pages-word, root-word, pieces-word, page-words, entry-for, root-set, pieces-set, page-append}
+use Rattle.placing.proofs.Adding.{part}
 use Rattle.placing.proofs.Descent.{place_down}
 
 -- the definitions, one step opened
 
-root-open : (t : List ℕ) (r level : ℕ) → root_made t r level
+root-open : (t : List ℕ) (r q level : ℕ) → root_made t r q level
     ≡ cond (ltb (get_or t 0 0) PAGES)
-    (set (set (put_page t (get_or t 0 0) (encode_page (page_of level (entry_for_in t r ∷ entry_for_in t (get_or t 0 0 - 1) ∷ [])))) 0 (get_or t 0 0 + 1)) 1 (get_or t 0 0)) t
+    (set (set (put_page t (get_or t 0 0) (encode_page (page_of level (entry_for_in t r ∷ entry_for_in t q ∷ [])))) 0 (get_or t 0 0 + 1)) 1 (get_or t 0 0)) t
 unfolding root_made
-root-open t r level = refl
+root-open t r q level = refl
 
 new-open : (r : ℕ) (ps : List Page) → new_root r ps ≡ ps ++ (page_of (suc (page_at ps r).level) (entry_for r ps ∷ entry_for (length ps - 1) ps ∷ []) ∷ [])
 unfolding new_root
@@ -46,7 +48,7 @@ new-open r ps = refl
 
 -- of a written table the rest of the call
 abbrev finished : ℕ → ℕ → ℕ → Written → List ℕ
-finished root level c s = set (cond s.split (root_made s.words root (level + 1)) s.words) 2 (c + 1)
+finished root level c s = set (topped root level s.0 s.1) 2 (c + 1)
 
 in-open : (t : List ℕ) (n : ℕ) (r : Rect) → place_in t n r
     ≡ finished (get_or t 1 0) (get_or (page_words t (get_or t 1 0)) 0 0) (get_or t 2 0) (place_at (get_or (page_words t (get_or t 1 0)) 0 0) t (get_or t 1 0) (entry_of r n))
@@ -67,7 +69,7 @@ words_open w n r = refl
 
 -- a split root gets a new root
 root-made : (a c : ℕ) (ps : List Page) (rest : List ℕ) (r level : ℕ) → r < length ps → length ps < PAGES → ((q : ℕ) → q < length ps → length (page_at ps q).entries ≤ FANOUT) → level ≡ (page_at ps r).level
-    → root_made (tabled a c ps rest) r (level + 1) ≡ tabled (length ps) c (new_root r ps) rest
+    → root_made (tabled a c ps rest) r (length ps - 1) (level + 1) ≡ tabled (length ps) c (new_root r ps) rest
 root-made a c ps rest r level rl most eight lv =
     let w : List ℕ = tabled a c ps rest in
     let k : ℕ = length ps in
@@ -75,7 +77,7 @@ root-made a c ps rest r level rl most eight lv =
     let lv' : level + 1 ≡ suc (page_at ps r).level = omega arith in
     let e1 : entry_for_in w r ≡ entry_for r ps = entry-for a c ps rest r (omega arith) (eight r rl) in
     let e2 : entry_for_in w (k - 1) ≡ entry_for (k - 1) ps = entry-for a c ps rest (k - 1) (omega arith) (eight (k - 1) (omega arith)) in
-    root-open w r (level + 1)
+    root-open w r (length ps - 1) (level + 1)
     ∙ rw (pages-word a c ps rest, lt-ltb k PAGES most, e1, e2, lv', page-append a c ps rest top most, root-set a c (ps ++ (top ∷ [])) rest k, new-open r ps)
 
 new-length : (r : ℕ) (ps : List Page) → length (new_root r ps) ≡ length ps + 1
@@ -91,7 +93,7 @@ module _ (t : Table) (rest : List ℕ) (ps : List Page) (rl : t.root < length ps
   one_more : t.count + 1 ≡ suc t.count
   one_more = omega arith
 
-  finish : (b : Bool) → length (stepped t ps b).pages ≤ PAGES → finished t.root level t.count (written_of (tabled t.root t.count ps rest) b) ≡ encode (stepped t ps b) ++ rest
+  finish : (b : Bool) → length (stepped t ps b).pages ≤ PAGES → finished t.root level t.count (part b ps, tabled t.root t.count ps rest) ≡ encode (stepped t ps b) ++ rest
   unfolding tabled
   finish true most =
       ap (λ w. set w 2 (t.count + 1)) (root-made t.root t.count ps rest t.root level rl (omega (arith, new-length t.root ps)) eight lv)

@@ -1,4 +1,5 @@
 pub mod Sort
+pub mod Arrays
 pub mod Bounding
 pub mod Fill
 pub mod Keeps
@@ -6,7 +7,6 @@ pub mod Placed
 pub mod Choosing
 pub mod Inserting
 pub mod Ordering
-pub mod Writing
 pub mod Stepping
 pub mod Searching
 pub mod PageWords

@@ -1,21 +1,21 @@
 -- The steps on a page's words, where the words are those of a page.
 use Prim.Native.Nat.{ℕ, zero, suc, ◌+◌, ◌*◌, ◌≤◌, ◌<◌}
 use native.Mathlib.Omega.{arith}
+use native.Mathlib.Numerals.{add-one}
 use native.Mathlib.Decide.{dec_lt}
 use mathlib.Core.Path.{◌≡◌, refl, sym, ap, ◌∙◌}
 use mathlib.Core.Logic.{◌≢◌}
-use mathlib.Core.List.{List, [], ◌∷◌, ◌++◌}
-use lib.ListN.{length, get_or, take, drop, set, length-append, length-set, get_or-append, get_or-eq_default}
-use lib.Seq.{take-suc, take-length, get_or-set_same, get_or-set_other, get_or_at, set-set}
+use mathlib.Core.List.{List, [], ◌∷◌, ◌++◌, append_assoc}
+use lib.ListN.{length, get_or, take, drop, set, replicate, length-append, length-set, length-take, get_or-append, get_or-eq_default}
+use lib.Seq.{sets, sets-eq, take-suc, take-length, take_all, get_or-set_same, get_or-set_other, get_or_at, set-set}
 use Rattle.pages.specs.declared.Entry.{Entry}
-use Rattle.pages.specs.Sizes.{PAGE_HEAD, FANOUT, ENTRY_WORDS}
+use Rattle.pages.specs.Sizes.{PAGE_HEAD, FANOUT, ENTRY_WORDS, PAGE_WORDS}
 use Rattle.pages.specs.Layout.{Page, page_of, no_entry, encode_entry, encode_page}
 use Rattle.pages.specs.Readers.{entries_in}
 use Rattle.pages.proofs.Round.{size-entry, size-page, count_word}
 use Rattle.pages.proofs.Cells.{entry-in, entry-change}
 use Rattle.pages.proofs.Over.{over, over-past}
 use Rattle.placing.specs.Steps.{count_in, filled_in, entry_set, appended}
-use Rattle.placing.proofs.Writing.{entry-over}
 
 -- reading
 
@@ -35,6 +35,20 @@ module _ (g : Page) where
       ap (entries_in (encode_page g)) e ∙ all_in l
 
 -- writing
+
+-- five words are written over those of place i
+entry-over : (w : List ℕ) (i : ℕ) (e : Entry) → length w ≡ PAGE_WORDS → i < FANOUT → entry_set w i e ≡ over w (PAGE_HEAD + ENTRY_WORDS * i) (encode_entry e)
+unfolding entry_set encode_entry
+entry-over w i e l h =
+    five (PAGE_HEAD + ENTRY_WORDS * i) ∙ (sets-eq (encode_entry e) w (PAGE_HEAD + ENTRY_WORDS * i) (omega arith) ∙ append_assoc (take (PAGE_HEAD + ENTRY_WORDS * i) w) (encode_entry e) _)
+  where
+    five : (a : ℕ) → set (set (set (set (set w a e.rect.x1) (a + 1) e.rect.y1) (a + 2) e.rect.x2) (a + 3) e.rect.y2) (a + 4) e.r ≡ sets w a (encode_entry e)
+    five a =
+        let e1 : a + 1 ≡ suc a = omega arith in
+        let e2 : a + 2 ≡ suc (suc a) = omega arith in
+        let e3 : a + 3 ≡ suc (suc (suc a)) = omega arith in
+        let e4 : a + 4 ≡ suc (suc (suc (suc a))) = omega arith in
+        rw (e1, e2, e3, e4)
 
 -- the entry at place i is written, and the count is left: so of entries that are the same elsewhere
 module _ (l : ℕ) (es fs : List Entry) (i : ℕ) (il : i < FANOUT) (h : (j : ℕ) → j ≢ i → get_or fs j no_entry ≡ get_or es j no_entry) where
@@ -96,3 +110,20 @@ appended-is g e l =
     ∙ (ap (λ w. set w 1 (length es + 1)) put
     ∙ (set-set (encode_page (page_of g.level fs)) 1 (length es) (length es + 1)
     ∙ set-count g.level (length es + 1) fs (sym (length-append es (e ∷ [])))))
+
+-- a page is written: first its level over zeros, then one entry more each time
+pub written_none : (w : List ℕ) (l : ℕ) → w ≡ replicate PAGE_WORDS 0 → set w 0 l ≡ encode_page (page_of l [])
+unfolding encode_page encode_entry
+written_none w l e = ap (λ v. set v 0 l) e
+
+pub written-room : (w : List ℕ) (i l : ℕ) (es : List Entry) → i < length es → length es ≤ FANOUT → w ≡ encode_page (page_of l (take i es)) → get_or w 1 0 < FANOUT
+written-room w i l es h k p = omega (arith, ap (λ v. get_or v 1 0) p, count_word (page_of l (take i es)), length-take i es)
+
+pub written-more : (w v : List ℕ) (i l : ℕ) (es : List Entry) → i < length es → length es ≤ FANOUT → w ≡ encode_page (page_of l (take i es)) → v ≡ appended w (get_or es i no_entry)
+    → v ≡ encode_page (page_of l (take (i + 1) es))
+written-more w v i l es h k p q =
+    q ∙ (ap (λ x. appended x (get_or es i no_entry)) p ∙ (appended-is (page_of l (take i es)) (get_or es i no_entry) (omega (arith, length-take i es))
+    ∙ ap (λ fs. encode_page (page_of l fs)) (sym (rw add-one (take-suc es i no_entry h)))))
+
+pub written_all : (w : List ℕ) (i l : ℕ) (es : List Entry) → length es ≤ i → w ≡ encode_page (page_of l (take i es)) → w ≡ encode_page (page_of l es)
+written_all w i l es h p = p ∙ ap (λ fs. encode_page (page_of l fs)) (take_all i es h)

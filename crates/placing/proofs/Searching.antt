@@ -2,83 +2,92 @@
 use Prim.Native.Nat.{ℕ, zero, suc, ◌+◌, ◌-◌, ◌≤◌, ◌<◌}
 use native.Mathlib.Omega.{arith}
 use native.Mathlib.Nat.{add-zero, add-suc}
-use native.Mathlib.Numerals.{add-one}
-use mathlib.Core.Path.{◌≡◌, refl, sym, ap, ◌∙◌}
-use mathlib.Core.Bool.{Bool, true, false}
+use mathlib.Core.Path.{◌≡◌, refl, sym, ap, subst, ◌∙◌}
+use mathlib.Core.Bool.{Bool, true, false, ◌&&◌, cond}
 use mathlib.Core.List.{List, [], ◌∷◌}
-use lib.ListN.{get_or}
-use lib.Dec.{ltb}
-use borrow.Author.Tests.{ltb-true, ltb-false, lt-ltb, eq-eqb, ne_eqb}
+use lib.ListN.{length, get_or}
+use lib.Dec.{ltb, eqb}
+use borrow.Author.Tests.{ltb-true, ltb-false, lt-ltb, eq-eqb}
 use Rattle.pages.specs.Sizes.{FANOUT}
-use Rattle.pages.specs.Lists.{one, sum}
+use Rattle.pages.specs.Lists.{one, sum, sum_below}
 use Rattle.pages.specs.Layout.{page_words}
 use Rattle.pages.specs.Sound.{is}
 use Rattle.pages.specs.Readers.{entry_in, entries_in}
 use Rattle.pages.proofs.Lists.{sum-append}
-use Rattle.pages.proofs.Below.{below_at}
-use Rattle.soundness.proofs.Entries.{sum-entry}
+use Rattle.pages.proofs.Entries.{is-not}
+use Rattle.pages.proofs.Below.{below-same, below-const, below_at}
+use Rattle.std.specs.Bool.{MatchBool}
+use Rattle.std.specs.List.{range_with_len, HoldsAt, AllWithin}
+use Rattle.std.proofs.lemmas.List.FromFn.{length-range_with_len, get_or-range_with_len}
+use Rattle.pages.specs.declared.Entry.{Entry}
 use Rattle.placing.specs.Steps.{count_in, held_in, held_below}
 
 held-last : (w : List ℕ) (c n : ℕ) → sum (is c) (entries_in w (suc n)) ≡ sum (is c) (entries_in w n) + is c (entry_in w n)
 unfolding entries_in
 held-last w c n = omega (arith, sum-append (is c) (entries_in w n) (entry_in w n ∷ []))
 
-held-zero : (w : List ℕ) (c n : ℕ) → ((i : ℕ) → i < n → (entry_in w i).r ≡ c → ⊥) → sum (is c) (entries_in w n) ≡ 0
+-- the entries of a page's words, place by place
+held-places : (w : List ℕ) (c n : ℕ) → sum (is c) (entries_in w n) ≡ sum_below n (λ i. is c (entry_in w i))
 unfolding entries_in
-held-zero w c zero h = refl
-held-zero w c (suc n) h =
-    let z : is c (entry_in w n) ≡ 0 = rw (ne_eqb (entry_in w n).r c (h n (omega arith))) in
-    omega (arith, held-last w c n, held-zero w c n (λ i l. h i (omega arith)))
+held-places w c zero = refl
+held-places w c (suc n) = omega (arith, held-last w c n, held-places w c n)
 
-held-some : (w : List ℕ) (c n i : ℕ) → i < n → (entry_in w i).r ≡ c → 0 < sum (is c) (entries_in w n)
-held-some w c n i l e = omega (arith, sum-entry w (is c) n i l, ap one (eq-eqb (entry_in w i).r c e))
+is-one : (c : ℕ) (e : Entry) → e.r ≡ c → 0 < is c e
+is-one c e h = omega (arith, ap one (eq-eqb e.r c h))
 
-pub ref_at : (w : List ℕ) (c n i : ℕ) → i < n → (entry_in w i).r ≡ c → true ≡ ltb 0 (sum (is c) (entries_in w n))
-ref_at w c n i l e = sym (lt-ltb 0 (sum (is c) (entries_in w n)) (held-some w c n i l e))
+-- `any` over the numbers below n says whether some summand is above 0
+module _ (n : ℕ) (f : ℕ → ℕ) (Yes No : ℕ → Type 0) (yes : (i : ℕ) → Yes i → 0 < f i) (no : (i : ℕ) → No i → f i ≡ 0) where
+  abbrev ns : List ℕ
+  ns = range_with_len 0 n
 
-pub ref-none : (w : List ℕ) (c n : ℕ) → ((i : ℕ) → i < n → (entry_in w i).r ≡ c → ⊥) → false ≡ ltb 0 (sum (is c) (entries_in w n))
-ref-none w c n h = rw (held-zero w c n h)
+  at : (i : ℕ) → i < n → get_or ns i 0 ≡ i
+  at i l = omega (arith, get_or-range_with_len 0 n i 0 l)
+
+  some : (i : ℕ) → i < n → Yes i → 0 < sum_below n f
+  some i l h = omega (arith, below_at n f i l, yes i h)
+
+  none : ((i : ℕ) → i < n → No i) → sum_below n f ≡ 0
+  none h = omega (arith, below-same n f (λ i. 0) (λ i l. no i (h i l)), below-const n 0)
+
+  any-below : (r : Bool) → MatchBool r ((k : ℕ) × (k < length ns) × HoldsAt Yes ns k) (AllWithin No ns 0 (length ns)) → r ≡ ltb 0 (sum_below n f)
+  any-below true (k, l, h) =
+      let m : k < n = omega (arith, length-range_with_len 0 n) in
+      sym (lt-ltb 0 (sum_below n f) (some k m (subst Yes (at k m) (h 0))))
+  any-below false h = rw (none (λ i l. subst No (at i l) (h i 0 (omega arith) (omega (arith, length-range_with_len 0 n)))))
+
+-- of the entries of a page's words, and of the pages
+pub ref-any : (w : List ℕ) (c n : ℕ) (r : Bool) → MatchBool r ((k : ℕ) × (k < length (range_with_len 0 n)) × HoldsAt (λ i. (entry_in w i).r ≡ c) (range_with_len 0 n) k)
+    (AllWithin (λ i. (entry_in w i).r ≡ c → ⊥) (range_with_len 0 n) 0 (length (range_with_len 0 n))) → r ≡ ltb 0 (sum (is c) (entries_in w n))
+ref-any w c n r h =
+    any-below n (λ i. is c (entry_in w i)) (λ i. (entry_in w i).r ≡ c) (λ i. (entry_in w i).r ≡ c → ⊥) (λ i. is-one c (entry_in w i)) (λ i. is-not c (entry_in w i)) r h
+    ∙ ap (ltb 0) (sym (held-places w c n))
+
+pub held-any : (t : List ℕ) (c k : ℕ) (r : Bool) → MatchBool r ((p : ℕ) × (p < length (range_with_len 0 k)) × HoldsAt (λ p. ltb 0 (held_in (page_words t p) c) ≡ true) (range_with_len 0 k) p)
+    (AllWithin (λ p. ltb 0 (held_in (page_words t p) c) ≡ false) (range_with_len 0 k) 0 (length (range_with_len 0 k))) → r ≡ ltb 0 (held_below t c k)
+unfolding held_below
+held-any t c k = any-below k (λ p. held_in (page_words t p) c) (λ p. ltb 0 (held_in (page_words t p) c) ≡ true) (λ p. ltb 0 (held_in (page_words t p) c) ≡ false)
+    (λ p. ltb-true 0 (held_in (page_words t p) c)) (λ p h. omega (arith, ltb-false 0 (held_in (page_words t p) c) h))
 
 held-front : (w : List ℕ) (c n m : ℕ) → sum (is c) (entries_in w n) ≤ sum (is c) (entries_in w (n + m))
 held-front w c n zero = omega (arith, ap (λ k. sum (is c) (entries_in w k)) (add-zero n))
 held-front w c n (suc m) = omega (arith, ap (λ k. sum (is c) (entries_in w k)) (add-suc n m), held-last w c (n + m), held-front w c n m)
 
-pub held-above : (w : List ℕ) (c : ℕ) → (get_or w 0 0 ≡ 0 → ⊥) → false ≡ ltb 0 (held_in w c)
+-- of a leaf; without a match at eight places there is none among the entries
+pub held_leaf : (w : List ℕ) (c : ℕ) → ltb 0 (held_in w c) ≡ (eqb (get_or w 0 0) 0 && ltb 0 (sum (is c) (entries_in w FANOUT))) && ltb 0 (sum (is c) (entries_in w (count_in w)))
 unfolding held_in
-held-above w c h = rw (ne_eqb (get_or w 0 0) 0 h)
+held_leaf w c = go (eqb (get_or w 0 0) 0) (ltb 0 (sum (is c) (entries_in w FANOUT))) refl
+  where
+    few : sum (is c) (entries_in w (count_in w)) ≤ sum (is c) (entries_in w FANOUT)
+    few =
+        let m : count_in w + (FANOUT - count_in w) ≡ FANOUT = omega arith in
+        omega (arith, held-front w c (count_in w) (FANOUT - count_in w), ap (λ k. sum (is c) (entries_in w k)) m)
 
-pub held-not : (w : List ℕ) (c : ℕ) (b : Bool) → get_or w 0 0 ≡ 0 → b ≡ ltb 0 (sum (is c) (entries_in w FANOUT)) → b ≡ false → false ≡ ltb 0 (held_in w c)
-unfolding held_in
-held-not w c b z p q =
-    let m : count_in w + (FANOUT - count_in w) ≡ FANOUT = omega arith in
-    let e : sum (is c) (entries_in w (count_in w)) ≡ 0 =
-    omega (arith, held-front w c (count_in w) (FANOUT - count_in w), ap (λ k. sum (is c) (entries_in w k)) m, ltb-false 0 (sum (is c) (entries_in w FANOUT)) (sym p ∙ q)) in
-    rw (eq-eqb (get_or w 0 0) 0 z, e)
-
-pub held-is : (w : List ℕ) (c n : ℕ) (b : Bool) → get_or w 0 0 ≡ 0 → n ≡ count_in w → b ≡ ltb 0 (sum (is c) (entries_in w n)) → b ≡ ltb 0 (held_in w c)
-unfolding held_in
-held-is w c n b z p q = q ∙ rw (eq-eqb (get_or w 0 0) 0 z, p)
-
-pub below_none : (t : List ℕ) (c : ℕ) → held_below t c 0 ≡ 0
-unfolding held_below
-below_none t c = refl
-
-pub below_more : (t w : List ℕ) (c p : ℕ) → held_below t c p ≡ 0 → w ≡ page_words t p → false ≡ ltb 0 (held_in w c) → held_below t c (p + 1) ≡ 0
-unfolding held_below
-below_more t w c p a b h =
-    let s : held_in (page_words t p) c ≡ 0 = ap (λ v. held_in v c) (sym b) ∙ omega (arith, ltb-false 0 (held_in w c) (sym h)) in
-    rw add-one (omega (arith, a, s))
-
-pub below-some : (t w : List ℕ) (c p k : ℕ) → p < k → w ≡ page_words t p → true ≡ ltb 0 (held_in w c) → true ≡ ltb 0 (held_below t c k)
-unfolding held_below
-below-some t w c p k l b h =
-    let s : held_in w c ≡ held_in (page_words t p) c = ap (λ v. held_in v c) b in
-    sym (lt-ltb 0 (held_below t c k) (omega (arith, s, below_at k (λ q. held_in (page_words t q) c) p l, ltb-true 0 (held_in w c) (sym h))))
-
-pub below_all : (t : List ℕ) (c p k : ℕ) → p ≤ k → k ≤ p → held_below t c p ≡ 0 → false ≡ ltb 0 (held_below t c k)
-below_all t c p k h l e =
-    let q : p ≡ k = omega arith in
-    rw (← q, e)
+    go : (a b : Bool) → ltb 0 (sum (is c) (entries_in w FANOUT)) ≡ b → ltb 0 (cond a (sum (is c) (entries_in w (count_in w))) 0) ≡ (a && b) && ltb 0 (sum (is c) (entries_in w (count_in w)))
+    go false b h = refl
+    go true true h = refl
+    go true false h =
+        let none : sum (is c) (entries_in w (count_in w)) ≡ 0 = omega (arith, few, ltb-false 0 (sum (is c) (entries_in w FANOUT)) h) in
+        rw none
 
 pub some-held : (b : Bool) (n : ℕ) → b ≡ ltb 0 n → b ≡ true → n ≡ 0 → ⊥
 some-held b n p q e = omega (arith, ltb-true 0 n (sym p ∙ q))

@@ -16,7 +16,8 @@ use Rattle.pages.proofs.Round.{size-page, length-encode, encode-page, words-of-p
 use Rattle.pages.proofs.Over.{over, over-past}
 use Rattle.pages.proofs.Whole.{sound-is}
 use Rattle.placing.specs.Place.{entry_for}
-use Rattle.placing.specs.Steps.{filled_in, put_page, bounds_at, entry_for_in}
+use Rattle.pages.specs.Writes.{put_page}
+use Rattle.placing.specs.Steps.{filled_in, bounds_at, entry_for_in}
 use Rattle.placing.proofs.PageWords.{filled-in, others_same}
 
 -- the words of a table with the root a, the count c and the pages ps, and the words rest after them

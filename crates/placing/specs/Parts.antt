@@ -1,23 +1,27 @@
 -- What the smallest parts of `place` are held to: a comparison of two entries to go to, and the order of nine by keys with places.
-use Rattle.std.specs.Prelude.{ℕ, zero, suc, ◌+◌, ◌*◌, Bool, ◌&&◌, ◌||◌, cond, List, [], ◌∷◌, ltb, eqb}
+use Rattle.std.specs.Prelude.{ℕ, zero, suc, ◌+◌, ◌*◌, min, max, Bool, ◌&&◌, ◌||◌, cond, List, [], ◌∷◌, ltb, eqb}
 use Rattle.pages.specs.declared.Rect.{Rect}
 use Rattle.pages.specs.declared.Entry.{Entry}
 use Rattle.pages.specs.Sizes.{FANOUT}
 use Rattle.pages.specs.Readers.{entry_in}
-use Rattle.placing.specs.declared.choice.Best.{Best}
-use Rattle.placing.specs.declared.order.Pair.{Pair}
+use Rattle.placing.specs.declared.choice.Cost.{Cost}
+use Rattle.placing.specs.declared.choice.Way.{Way}
 use Rattle.placing.specs.Place.{area, growth}
 
--- the rectangle r, at the place i of a page, as one to go to
-abbrev pub best_of : Rect → Rect → ℕ → Best
-best_of new r i = record { growth = growth new r; area = area r; at = i }
+-- what it costs to go to the rectangle r
+abbrev pub cost_of : Rect → Rect → Cost
+cost_of new r = record { growth = growth new r; area = area r }
 
--- `before` of Place, on the numbers of two rectangles
-abbrev pub comes_before : Best → Best → Bool
-comes_before a b = ltb a.growth b.growth || (eqb a.growth b.growth && ltb a.area b.area)
+-- the rectangle r, at a place of a page, as one to go to
+abbrev pub way_of : Rect → Rect → ℕ → Way
+way_of new r at = record { cost = cost_of new r; at = at }
 
-abbrev pub better : Best → Best → Best
-better a b = cond (comes_before a b) a b
+-- `before` of Place, on the costs of two rectangles
+abbrev pub costs_less : Cost → Cost → Bool
+costs_less a b = ltb a.growth b.growth || (eqb a.growth b.growth && ltb a.area b.area)
+
+abbrev pub cheaper : Way → Way → Way
+cheaper a b = cond (costs_less a.cost b.cost) a b
 
 -- the entries of a page that is split: one more than it has room for
 abbrev pub NINE : ℕ
@@ -31,14 +35,10 @@ PLACES = 16
 abbrev pub keyed : ℕ → ℕ → ℕ
 keyed key place = key * PLACES + place
 
--- two such numbers in their order
-abbrev pub pair_of : ℕ → ℕ → Pair
-pair_of a b = cond (ltb a b) (record { low = a; high = b }) (record { low = b; high = a })
-
 -- a number goes through others: each place keeps the lower, and the higher goes on
 unfoldable pub inserted : ℕ → List ℕ → List ℕ
 inserted x [] = x ∷ []
-inserted x (y ∷ ys) = (pair_of x y).low ∷ inserted (pair_of x y).high ys
+inserted x (y ∷ ys) = min x y ∷ inserted (max x y) ys
 
 -- the keys of the places below n, each with its place, inserted in turn
 unfoldable pub rising_to : (ℕ → ℕ) → ℕ → List ℕ

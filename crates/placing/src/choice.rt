@@ -1,72 +1,82 @@
 // The entry to go to: the one whose area grows least.
 ghost use Rattle.std.specs.Prelude.{◌≡◌, ◌-◌, ◌<◌, length};
 ghost use Rattle.pages.specs.Sizes.{FANOUT, PAGE_WORDS};
+ghost use Rattle.pages.specs.Readers.{entry_in};
 ghost use Rattle.placing.specs.Place.{area};
-ghost use Rattle.placing.specs.Parts.{best_of, comes_before, better};
+ghost use Rattle.placing.specs.Parts.{cost_of, way_of, cheaper};
 ghost use Rattle.placing.specs.Steps.{chosen_in};
 
 use super::words::entry_count;
-use pages::Rect;
+use pages::{PAGE_WORDS, Rect};
 
-pub fn span(a: u32, b: u32) -> u32
-    ensures { result ≡ b - a }
+pub fn width(r: Rect) -> u32
+    ensures { result ≡ r.x2 - r.x1 }
 {
-    if a < b { b - a } else { 0 }
+    r.x2.saturating_sub(r.x1)
+}
+
+pub fn height(r: Rect) -> u32
+    ensures { result ≡ r.y2 - r.y1 }
+{
+    r.y2.saturating_sub(r.y1)
 }
 
 // Areas reach 10^12.
+#[tactic(auto, unfolding(crate::specs::Place::area))]
 fn area(r: Rect) -> u64
     ensures { result ≡ area r }
 {
-    (span(r.x1, r.x2) as u64) * (span(r.y1, r.y2) as u64)
+    u64::from(width(r)) * u64::from(height(r))
 }
 
-// An entry to go to: by how much its area grows, its area, and its place in the page.
-#[derive(Clone, Copy)]
-pub struct Best {
+// What it costs to go to an entry: by how much its area grows; ties go to the smaller area.
+#[derive(Clone, Copy, PartialEq, Eq, PartialOrd, Ord)]
+pub struct Cost {
     pub growth: u64,
     pub area: u64,
+}
+
+// An entry to go to: its cost, and its place in the page.
+#[derive(Clone, Copy)]
+pub struct Way {
+    pub cost: Cost,
     pub at: usize,
 }
 
-fn cost(r: Rect, new: Rect, at: usize) -> Best
-    ensures { result ≡ best_of new r at }
+#[tactic(auto, using(crate::proofs::Choosing::area_widen))]
+fn cost_of(r: Rect, new: Rect) -> Cost
+    ensures { result ≡ cost_of new r }
 {
-    let old: u64 = area(r);
-    Best {
-        growth: area(pages::widened(r, new)) - old,
+    let old = area(r);
+    Cost {
+        growth: area(r.widened(new)) - old,
         area: old,
-        at,
     }
 }
 
-fn comes_before(a: Best, b: Best) -> bool
-    ensures { result ≡ comes_before a b }
+fn way_of(page: &[u32; PAGE_WORDS], at: usize, new: Rect) -> Way
+    requires { at < FANOUT }
+    ensures { result ≡ way_of new (entry_in page.now at).rect at }
 {
-    if a.growth == b.growth {
-        return a.area < b.area;
-    }
-    a.growth < b.growth
+    let cost = cost_of(pages::entry_of(page, at).rect, new);
+    Way { cost, at }
 }
 
-fn better(a: Best, b: Best) -> Best
-    ensures { result ≡ better a b }
+// The second, unless the first costs less.
+fn cheaper(a: Way, b: Way) -> Way
+    ensures { result ≡ cheaper a b }
 {
-    if comes_before(a, b) {
-        return a;
-    }
-    b
+    if a.cost < b.cost { a } else { b }
 }
 
 // The place of the entry to go to; of none, 0.
-pub fn choose(page: &[u32], new: Rect) -> usize
-    requires { length page.now ≡ PAGE_WORDS }
-    ensures { (result < FANOUT) × (result ≡ chosen_in page.now new) }
+pub fn choose(page: &[u32; PAGE_WORDS], new: Rect) -> usize
+    ensures inside { result < FANOUT }
+    ensures chosen { result ≡ chosen_in page.now new }
 {
-    let n = entry_count(page);
-    let mut best = cost(pages::entry_of(page, 0).rect, new, 0);
-    for i in 1..n {
-        best = better(cost(pages::entry_of(page, i).rect, new, i), best);
+    let mut best = way_of(page, 0, new);
+    for i in 1..entry_count(page) {
+        best = cheaper(way_of(page, i, new), best);
     }
     best.at
 }

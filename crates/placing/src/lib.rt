@@ -6,29 +6,24 @@ mod order;
 mod search;
 mod words;
 
-ghost use Rattle.std.specs.Prelude.{◌≡◌, cond, ◌+◌, ◌-◌, ◌≤◌, ◌<◌, length, get_or, T, leb};
-ghost use Rattle.pages.specs.Sizes.{PIECES, FANOUT, PAGES, TABLE_WORDS, TOP_LEVEL};
+ghost use Rattle.std.specs.Prelude.{◌≡◌, ◌≤◌, ◌<◌, length, get_or, T, leb};
+ghost use Rattle.refusals.specs.Numbers.{refusal_of};
+ghost use Rattle.pages.specs.Sizes.{PIECES, FANOUT, PAGES, TABLE_WORDS};
 ghost use Rattle.pages.specs.Rectangles.{valid};
 ghost use Rattle.pages.specs.Layout.{page_words, table_in};
 ghost use Rattle.pages.specs.Sound.{stored, sound};
-ghost use Rattle.pages.specs.Readers.{entry_in};
 ghost use Rattle.placing.specs.Calls.{placed_words, place_sound, place_call};
-ghost use Rattle.placing.specs.Steps.{split_into, add_to, bounds_at, entry_for_in, reset_entry, widen_entry, settled, written_of, place_at, root_made};
+ghost use Rattle.placing.specs.Steps.{split_into, add_to, bounds_at, entry_for_in, widen_entry, parted, place_at, root_made};
 
-use choice::{choose, span};
-use order::{NINE, ordered_nine};
-use pages::{
-    ACCEPTED, ALREADY_STANDING, COUNT, Entry, FANOUT, LEVEL, NUMBER_TOO_LARGE, PAGE_COUNT, PAGES,
-    PIECE_COUNT, PIECES, RECTANGLE_NOT_VALID, ROOT, Rect,
-};
+use choice::choose;
+use order::ordered_nine;
+use pages::{COUNT, Entry, FANOUT, LEVEL, PAGE_COUNT, PAGES, PIECE_COUNT, PIECES, ROOT, Rect};
+use refusals::Refusal;
 use search::stands;
-use words::{entry_count, put_appended, put_entry, put_page};
+use words::{append_entry, entry_count, write_entry, write_page};
 
 // How many of nine entries stay in a page that is split.
 const STAY: usize = 4;
-
-// A new root has two entries: the old root's, and that of the page split off it.
-const ROOT_ENTRIES: usize = 2;
 
 // Four of the nine stay in page p, and five go to page k.
 fn split_page(table: &mut [u32], p: u32, k: u32, e: Entry)
@@ -38,50 +33,55 @@ fn split_page(table: &mut [u32], p: u32, k: u32, e: Entry)
     let page = pages::page_of(table, p as usize);
     let level = page[LEVEL];
     let es = ordered_nine(page, e);
-    put_page(table, p, level, es, 0, STAY);
-    put_page(table, k, level, es, STAY, NINE - STAY);
+    pages::change_page(
+        table,
+        p as usize,
+        |page| write_page(page, level, &es[..STAY]),
+    );
+    pages::change_page(
+        table,
+        k as usize,
+        |page| write_page(page, level, &es[STAY..]),
+    );
 }
 
 fn is_full(table: &[u32], p: u32) -> bool
     requires { (TABLE_WORDS ≤ length table.now) × (p < PAGES) }
     ensures { result ≡ leb FANOUT (get_or (page_words table.now p) 1 0) }
 {
-    let page = pages::page_of(table, p as usize);
-    page[COUNT] as usize >= FANOUT
+    pages::page_of(table, p as usize)[COUNT] as usize >= FANOUT
 }
 
-// Adds the entry to page p, and splits p where it is full; then the answer is true.
-fn add_entry(table: &mut [u32], p: u32, e: Entry) -> bool
+// Adds the entry to page p. A full page is split, and the answer is the page that was made of its other part.
+#[tactic(auto, unfolding(crate::specs::Steps::add_to))]
+fn add_entry(table: &mut [u32], p: u32, e: Entry) -> Option<u32>
     requires { (TABLE_WORDS ≤ length table.old) × (p < PAGES) }
-    ensures { (result ≡ (add_to table.old p e).split) × (table.new ≡ (add_to table.old p e).words) }
+    ensures { (result, table.new) ≡ add_to table.old p e }
 {
     if !is_full(table, p) {
-        put_appended(table, p, e);
-        return false;
+        pages::change_page(table, p as usize, |page| append_entry(page, e));
+        return None;
     }
     let k = table[PAGE_COUNT];
     if k as usize >= PAGES {
-        return false;
+        return None;
     }
     split_page(table, p, k, e);
     table[PAGE_COUNT] = k + 1;
-    true
+    Some(k)
 }
 
 // The bounds of page q; zeros where it has no entry or is no page.
+#[tactic(auto, unfolding(crate::specs::Steps::bounds_at))]
 fn bounds_at(table: &[u32], q: u32) -> Rect
     requires { TABLE_WORDS ≤ length table.now }
     ensures { result ≡ bounds_at table.now q }
 {
     if q as usize >= PAGES {
-        return pages::no_rect();
+        return Rect::default();
     }
     let page = pages::page_of(table, q as usize);
-    let n = entry_count(page);
-    if n == 0 {
-        return pages::no_rect();
-    }
-    pages::bounds_of(page, n)
+    pages::bounds_of(page, entry_count(page))
 }
 
 // The entry for page q: its bounds.
@@ -95,105 +95,64 @@ fn entry_for(table: &[u32], q: u32) -> Entry
     }
 }
 
-// Sets the entry at place i of page p to the bounds of its child q.
-fn reset_entry(table: &mut [u32], p: u32, i: usize, q: u32)
-    requires { (TABLE_WORDS ≤ length table.old) × (p < PAGES) × (i < FANOUT) }
-    ensures { table.new ≡ reset_entry table.old p i q }
-{
-    let e = entry_for(table, q);
-    put_entry(table, p, i, e);
-}
-
-// The entry for the page that was made last.
-fn entry_last(table: &[u32]) -> Entry
-    requires { TABLE_WORDS ≤ length table.now }
-    ensures { result ≡ entry_for_in table.now (get_or table.now 0 0 - 1) }
-{
-    entry_for(table, span(1, table[PAGE_COUNT]))
-}
-
-// Widens the entry at place i of page p by the new rectangle.
+// Widens the entry at place i of page p by the new rectangle. It was exact, so no bounds are made anew.
+#[tactic(auto, unfolding(crate::specs::Steps::widen_entry))]
 fn widen_entry(table: &mut [u32], p: u32, i: usize, new: Rect)
     requires { (TABLE_WORDS ≤ length table.old) × (p < PAGES) × (i < FANOUT) }
     ensures { table.new ≡ widen_entry table.old p i new }
 {
-    let old = pages::entry_of(pages::page_of(table, p as usize), i);
-    let rect = pages::widened(old.rect, new);
-    put_entry(table, p, i, Entry { rect, r: old.r });
+    pages::change_page(table, p as usize, |page| words::widen_entry(page, i, new));
 }
 
-// What page p does after its child q at place i took the new rectangle; split says whether the child was split.
-// If not, the entry was exact and is only widened: no bounds are made anew.
-fn settle(table: &mut [u32], p: u32, i: usize, q: u32, new: Rect, split: bool) -> bool
+// The child q at place i of page p was split, and page k was made of its other part: q's entry gets its bounds, and k an entry of its own.
+#[tactic(auto, unfolding(crate::specs::Steps::parted, crate::specs::Steps::reset_entry))]
+fn add_part(table: &mut [u32], p: u32, i: usize, q: u32, k: u32) -> Option<u32>
     requires { (TABLE_WORDS ≤ length table.old) × (p < PAGES) × (i < FANOUT) }
-    ensures { (result ≡ (settled p i q new (written_of table.old split)).split) × (table.new ≡ (settled p i q new (written_of table.old split)).words) }
+    ensures { (result, table.new) ≡ parted p i q k table.old }
 {
-    if !split {
-        widen_entry(table, p, i, new);
-        return false;
-    }
-    reset_entry(table, p, i, q);
-    let e = entry_last(table);
-    add_entry(table, p, e)
+    let e = entry_for(table, q);
+    pages::change_page(table, p as usize, |page| write_entry(page, i, e));
+    let part = entry_for(table, k);
+    add_entry(table, p, part)
 }
 
-fn child(table: &[u32], p: u32, i: usize) -> u32
-    requires { (TABLE_WORDS ≤ length table.now) × (p < PAGES) × (i < FANOUT) }
-    ensures { result ≡ (entry_in (page_words table.now p) i).r }
-{
-    pages::entry_of(pages::page_of(table, p as usize), i).r
-}
-
-// Adds the entry below page p, which is at the level; the answer says whether p was split.
-fn place_at(table: &mut [u32], level: u32, p: u32, e: Entry) -> bool
+// Adds the entry below page p, which is at the level; the answer is the page that was split off p.
+fn place_at(table: &mut [u32], level: u32, p: u32, e: Entry) -> Option<u32>
     requires { TABLE_WORDS ≤ length table.old }
-    ensures { (result ≡ (place_at level table.old p e).split) × (table.new ≡ (place_at level table.old p e).words) }
+    ensures { (result, table.new) ≡ place_at level table.old p e }
 {
     if p as usize >= PAGES {
-        return false;
+        return None;
     }
     if level == 0 {
         return add_entry(table, p, e);
     }
-    let i = choose(pages::page_of(table, p as usize), e.rect);
-    let q = child(table, p, i);
-    let split = place_at(table, level - 1, q, e);
-    settle(table, p, i, q, e.rect, split)
+    let page = pages::page_of(table, p as usize);
+    let i = choose(page, e.rect);
+    let q = pages::entry_of(page, i).r;
+    match place_at(table, level - 1, q, e) {
+        None => {
+            widen_entry(table, p, i, e.rect);
+            None
+        }
+        Some(k) => add_part(table, p, i, q, k),
+    }
 }
 
-// Page k becomes the root, over the old root and the page that was split off it.
-fn make_root(table: &mut [u32], root: u32, level: u32)
+// A new page becomes the root, over the old root and page q, which was split off it.
+#[tactic(auto, unfolding(crate::specs::Steps::root_made))]
+fn make_root(table: &mut [u32], root: u32, q: u32, level: u32)
     requires { TABLE_WORDS ≤ length table.old }
-    ensures { table.new ≡ root_made table.old root level }
+    ensures { table.new ≡ root_made table.old root q level }
 {
     let k = table[PAGE_COUNT];
     if k as usize >= PAGES {
         return;
     }
-    let mut es = [entry_for(table, root); NINE];
-    es[1] = entry_last(table);
-    put_page(table, k, level, es, 0, ROOT_ENTRIES);
+    let es = [entry_for(table, root), entry_for(table, q)];
+    pages::change_page(table, k as usize, |page| write_page(page, level, &es));
     table[PAGE_COUNT] = k + 1;
     table[ROOT] = k;
-}
-
-// What is done above the root, which is at the level; split says whether it was split.
-fn settle_root(table: &mut [u32], root: u32, level: u32, split: bool)
-    requires { (TABLE_WORDS ≤ length table.old) × (level ≤ TOP_LEVEL) }
-    ensures { table.new ≡ cond split (root_made table.old root (level + 1)) table.old }
-{
-    if !split {
-        return;
-    }
-    make_root(table, root, level + 1);
-}
-
-fn root_level(table: &[u32]) -> u32
-    requires { (TABLE_WORDS ≤ length table.now) × (get_or table.now 1 0 < PAGES) }
-    ensures { result ≡ get_or (page_words table.now (get_or table.now 1 0)) 0 0 }
-{
-    let page = pages::page_of(table, table[ROOT] as usize);
-    page[LEVEL]
 }
 
 // A place call that nothing refuses.
@@ -203,39 +162,37 @@ pub fn place_new(table: &mut [u32], number: u32, rect: Rect)
 {
     let root = table[ROOT];
     let count = table[PIECE_COUNT];
-    let level = root_level(table);
+    let level = pages::page_of(table, root as usize)[LEVEL];
     let e = Entry { rect, r: number };
-    let split = place_at(table, level, root, e);
-    settle_root(table, root, level, split);
+    if let Some(part) = place_at(table, level, root, e) {
+        make_root(table, root, part, level + 1);
+    }
     table[PIECE_COUNT] = count + 1;
 }
 
 // A place call on a sound table.
 #[tactic(auto, using(crate::proofs::Called::call_too_large))]
-pub fn place_sound(table: &mut [u32], number: u32, rect: Rect) -> u32
+pub fn place_sound(table: &mut [u32], number: u32, rect: Rect) -> Result<(), Refusal>
     requires { (TABLE_WORDS ≤ length table.old) × T (sound table.old) }
-    ensures { (result, table.new) ≡ place_sound table.old number rect }
+    ensures { (refusal_of result, table.new) ≡ place_sound table.old number rect }
 {
-    if !pages::is_valid(rect) {
-        return RECTANGLE_NOT_VALID;
+    if !rect.is_valid() {
+        return Err(Refusal::RectangleNotValid);
     }
     if number >= PIECES {
-        return NUMBER_TOO_LARGE;
+        return Err(Refusal::NumberTooLarge);
     }
     if stands(table, number) {
-        return ALREADY_STANDING;
+        return Err(Refusal::AlreadyStanding);
     }
     place_new(table, number, rect);
-    ACCEPTED
+    Ok(())
 }
 
 // A place call on any words.
-pub fn place(table: &mut [u32], number: u32, rect: Rect) -> u32
-    ensures { (result, table.new) ≡ place_call table.old number rect }
+pub fn place(table: &mut [u32], number: u32, rect: Rect) -> Result<(), Refusal>
+    ensures { (refusal_of result, table.new) ≡ place_call table.old number rect }
 {
-    let refusal = soundness::check(table).refusal;
-    if refusal != ACCEPTED {
-        return refusal;
-    }
+    soundness::check(table)?;
     place_sound(table, number, rect)
 }

@@ -7,34 +7,22 @@ ghost use Rattle.pages.specs.Readers.{entries_in};
 ghost use Rattle.placing.specs.Steps.{held_in, held_below};
 
 use super::words::entry_count;
-use pages::{ENTRY_R, ENTRY_WORDS, FANOUT, LEVEL, PAGE_COUNT, PAGE_HEAD};
+use pages::{FANOUT, LEVEL, PAGE_COUNT, PAGE_WORDS};
 
 // Whether one of the first n entries of a page's words has the r `number`.
-#[tactic(auto, using(crate::proofs::Searching::ref_at))]
-fn has_ref(page: &[u32], n: usize, number: u32) -> bool
-    requires { (length page.now ≡ PAGE_WORDS) × (n ≤ FANOUT) }
+fn has_ref(page: &[u32; PAGE_WORDS], n: usize, number: u32) -> bool
+    requires { n ≤ FANOUT }
     ensures { result ≡ ltb 0 (sum (is number) (entries_in page.now n)) }
 {
-    for i in 0..n {
-        if page[PAGE_HEAD + ENTRY_WORDS * i + ENTRY_R] == number {
-            return true;
-        }
-    }
-    false
+    (0..n).any(|i| pages::entry_of(page, i).r == number)
 }
 
 // Whether an entry of a leaf has the r `number`. The count is read only after a match at one of the eight places.
-fn is_held(page: &[u32], number: u32) -> bool
-    requires { length page.now ≡ PAGE_WORDS }
+#[tactic(auto, using(crate::proofs::Searching::held_leaf))]
+fn is_held(page: &[u32; PAGE_WORDS], number: u32) -> bool
     ensures { result ≡ ltb 0 (held_in page.now number) }
 {
-    if page[LEVEL] != 0 {
-        return false;
-    }
-    if !has_ref(page, FANOUT, number) {
-        return false;
-    }
-    has_ref(page, entry_count(page), number)
+    page[LEVEL] == 0 && has_ref(page, FANOUT, number) && has_ref(page, entry_count(page), number)
 }
 
 // Whether an entry in the leaves has the r `number`.
@@ -43,10 +31,5 @@ pub fn stands(table: &[u32], number: u32) -> bool
     ensures { result ≡ ltb 0 (held_below table.now number (get_or table.now 0 0)) }
 {
     let k = table[PAGE_COUNT] as usize;
-    for p in 0..k {
-        if is_held(pages::page_of(table, p), number) {
-            return true;
-        }
-    }
-    false
+    (0..k).any(|p| is_held(pages::page_of(table, p), number))
 }

@@ -1,24 +1,21 @@
-// A page written: one entry, all of them, and the page in the middle of the table.
-ghost use Rattle.std.specs.Prelude.{◌≡◌, ◌+◌, ◌≤◌, ◌<◌, length, get_or, take, drop};
-ghost use Rattle.pages.specs.Sizes.{FANOUT, PAGE_WORDS, PAGES, TABLE_WORDS};
-ghost use Rattle.pages.specs.Layout.{no_entry, page_of, encode_page, page_words};
-ghost use Rattle.placing.specs.Parts.{NINE};
-ghost use Rattle.placing.specs.Steps.{count_in, entry_set, appended, put_page};
+// A page's words written: one entry, one more, or all of them.
+ghost use Rattle.std.specs.Prelude.{◌≡◌, ◌≤◌, ◌<◌, length, get_or};
+ghost use Rattle.pages.specs.Sizes.{FANOUT};
+ghost use Rattle.pages.specs.Layout.{page_of, encode_page};
+ghost use Rattle.placing.specs.Steps.{count_in, entry_set, entry_widened, appended};
 
-use super::order::NINE;
-use pages::{COUNT, ENTRY_R, ENTRY_WORDS, Entry, FANOUT, LEVEL, PAGE_HEAD, PAGE_WORDS, TABLE_HEAD};
+use pages::{COUNT, ENTRY_R, ENTRY_WORDS, Entry, FANOUT, LEVEL, PAGE_HEAD, PAGE_WORDS, Rect};
 
 // The entry count of a page's words, at most 8.
-pub fn entry_count(page: &[u32]) -> usize
-    requires { length page.now ≡ PAGE_WORDS }
+pub fn entry_count(page: &[u32; PAGE_WORDS]) -> usize
     ensures { result ≡ count_in page.now }
 {
-    let n = page[COUNT] as usize;
-    if n < FANOUT { n } else { FANOUT }
+    (page[COUNT] as usize).min(FANOUT)
 }
 
-fn write_entry(page: &mut [u32], i: usize, e: Entry)
-    requires { (length page.old ≡ PAGE_WORDS) × (i < FANOUT) }
+#[tactic(auto, unfolding(crate::specs::Steps::entry_set))]
+pub fn write_entry(page: &mut [u32; PAGE_WORDS], i: usize, e: Entry)
+    requires { i < FANOUT }
     ensures { page.new ≡ entry_set page.old i e }
 {
     let at = PAGE_HEAD + ENTRY_WORDS * i;
@@ -29,8 +26,19 @@ fn write_entry(page: &mut [u32], i: usize, e: Entry)
     page[at + ENTRY_R] = e.r;
 }
 
-fn append_entry(page: &mut [u32], e: Entry)
-    requires { (length page.old ≡ PAGE_WORDS) × (get_or page.old 1 0 < FANOUT) }
+// Widens the entry at place i by the new rectangle.
+pub fn widen_entry(page: &mut [u32; PAGE_WORDS], i: usize, new: Rect)
+    requires { i < FANOUT }
+    ensures { page.new ≡ entry_widened page.old i new }
+{
+    let old = pages::entry_of(page, i);
+    let rect = old.rect.widened(new);
+    write_entry(page, i, Entry { rect, r: old.r });
+}
+
+#[tactic(auto, unfolding(crate::specs::Steps::appended))]
+pub fn append_entry(page: &mut [u32; PAGE_WORDS], e: Entry)
+    requires { get_or page.old 1 0 < FANOUT }
     ensures { page.new ≡ appended page.old e }
 {
     let n = page[COUNT];
@@ -38,56 +46,14 @@ fn append_entry(page: &mut [u32], e: Entry)
     page[COUNT] = n + 1;
 }
 
-// The i-th of the n entries of es from `from` on, and a blank one past them.
-fn entry_or_blank(es: [Entry; NINE], from: usize, n: usize, i: usize) -> Entry
-    requires { from + n ≤ NINE }
-    ensures { result ≡ get_or (take n (drop from es)) i no_entry }
+// Writes the whole page: its level, the entries and their number, and zeros.
+pub fn write_page(page: &mut [u32; PAGE_WORDS], level: u32, es: &[Entry])
+    requires { length es.now ≤ FANOUT }
+    ensures { page.new ≡ encode_page (page_of level es.now) }
 {
-    if i < n {
-        return es[from + i];
-    }
-    Entry {
-        rect: pages::no_rect(),
-        r: 0,
-    }
-}
-
-// Writes the whole page: its level, n, the n entries of es from `from` on, and zeros.
-fn write_page(page: &mut [u32], level: u32, es: [Entry; NINE], from: usize, n: usize)
-    requires { (length page.old ≡ PAGE_WORDS) × (n ≤ FANOUT) × (from + n ≤ NINE) }
-    ensures { page.new ≡ encode_page (page_of level (take n (drop from es))) }
-{
+    page.fill(0);
     page[LEVEL] = level;
-    page[COUNT] = n as u32;
-    for i in 0..FANOUT {
-        write_entry(page, i, entry_or_blank(es, from, n, i));
+    for e in es {
+        append_entry(page, *e);
     }
-}
-
-// The page's words are lent from the middle of the table.
-pub fn put_page(table: &mut [u32], p: u32, level: u32, es: [Entry; NINE], from: usize, n: usize)
-    requires { (TABLE_WORDS ≤ length table.old) × (p < PAGES) × (n ≤ FANOUT) × (from + n ≤ NINE) }
-    ensures { table.new ≡ put_page table.old p (encode_page (page_of level (take n (drop from es)))) }
-{
-    let start = TABLE_HEAD + PAGE_WORDS * (p as usize);
-    let end = start + PAGE_WORDS;
-    write_page(&mut table[start..end], level, es, from, n);
-}
-
-pub fn put_appended(table: &mut [u32], p: u32, e: Entry)
-    requires { (TABLE_WORDS ≤ length table.old) × (p < PAGES) × (get_or (page_words table.old p) 1 0 < FANOUT) }
-    ensures { table.new ≡ put_page table.old p (appended (page_words table.old p) e) }
-{
-    let start = TABLE_HEAD + PAGE_WORDS * (p as usize);
-    let end = start + PAGE_WORDS;
-    append_entry(&mut table[start..end], e);
-}
-
-pub fn put_entry(table: &mut [u32], p: u32, i: usize, e: Entry)
-    requires { (TABLE_WORDS ≤ length table.old) × (p < PAGES) × (i < FANOUT) }
-    ensures { table.new ≡ put_page table.old p (entry_set (page_words table.old p) i e) }
-{
-    let start = TABLE_HEAD + PAGE_WORDS * (p as usize);
-    let end = start + PAGE_WORDS;
-    write_entry(&mut table[start..end], i, e);
 }

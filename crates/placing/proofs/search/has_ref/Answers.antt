@@ -1,15 +1,13 @@
--- No place passed has the number.
-use Rattle.std.proofs.Common.{rules}
-use native.Mathlib.Omega.{arith}
-use borrow.Author.Count.{below_more}
-use Rattle.placing.proofs.Searching.{ref-none}
+-- The closure compares one r.
+use Rattle.std.proofs.Common.{◌≡◌, refl, arith, rules, tests}
+use Rattle.std.proofs.lemmas.Iterator.{YieldsList-from_range, cases_from_any}
+use Rattle.pages.specs.Readers.{entry_in}
+use Rattle.placing.proofs.Searching.{ref-any}
 use Rattle.placing.proofs.search.has_ref.Goals as goal
 
-pub loop-i-init : goal.loop-i-init
-loop-i-init c = (search rules, λ j l e. omega arith)
-
-pub loop-i-preserved : goal.loop-i-preserved
-loop-i-preserved c = (search rules, below_more _ _ c.loop-i.invariant.1 (λ e. omega arith))
-
 pub returns : goal.returns
-returns c = ref-none _ _ _ (λ j l. c.loop-i.invariant.1 j (omega arith))
+returns c =
+    let a = c.args in
+    ref-any a.page.now a.number a.n _
+    (cases_from_any _ _ _ (λ i. (entry_in a.page.now i).r ≡ a.number) (λ i. (entry_in a.page.now i).r ≡ a.number → ⊥) c.any.ensures.ran (YieldsList-from_range 0 a.n a.n refl (omega arith))
+    (λ i q k. search (rules, tests)) (λ i q k. search (rules, tests)))

@@ -1,17 +1,15 @@
--- No page passed holds the number.
-use Rattle.std.proofs.Common.{rules}
-use mathlib.Core.Path.{sym, ◌∙◌}
-use Rattle.placing.proofs.Searching.{below_none, below_more, below-some, below_all}
+-- The closure looks into one page.
+use Rattle.std.proofs.Common.{◌≡◌, true, false, ltb, get_or, refl, arith, rules, tests}
+use Rattle.std.proofs.lemmas.Iterator.{YieldsList-from_range, cases_from_any}
+use Rattle.pages.specs.Layout.{page_words}
+use Rattle.placing.specs.Steps.{held_in}
+use Rattle.placing.proofs.Searching.{held-any}
 use Rattle.placing.proofs.search.stands.Goals as goal
 
-pub loop-p-init : goal.loop-p-init
-loop-p-init c = (search rules, below_none _ _)
-
-pub returns-then-is_held : goal.returns-then-is_held
-returns-then-is_held c = below-some _ _ _ c.loop-p.p _ (search rules) c.page_of.ensures.1 (sym c.if-is_held.true ∙ c.is_held.ensures)
-
-pub loop-p-preserved : goal.loop-p-preserved
-loop-p-preserved c = (search rules, below_more _ _ _ _ c.loop-p.invariant.1 c.page_of.ensures.1 (sym c.if-is_held.false ∙ c.is_held.ensures))
-
 pub returns : goal.returns
-returns c = below_all _ _ _ _ c.loop-p.invariant.0 (search rules) c.loop-p.invariant.1
+returns c =
+    let t = c.args.table.now in
+    let n = c.args.number in
+    held-any t n (get_or t 0 0) _
+    (cases_from_any _ _ _ (λ p. ltb 0 (held_in (page_words t p) n) ≡ true) (λ p. ltb 0 (held_in (page_words t p) n) ≡ false) c.any.ensures.ran (YieldsList-from_range 0 (get_or t 0 0) (get_or t 0 0) refl (omega arith))
+    (λ p q k. search (rules, tests)) (λ p q k. search (rules, tests)))

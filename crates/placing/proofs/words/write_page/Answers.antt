@@ -1,27 +1,16 @@
--- The words before the next entry are those of the page.
+-- The page has the entries passed.
 use Rattle.std.proofs.Common.{rules}
-use native.Mathlib.Omega.{arith}
-use mathlib.Core.Path.{ap, ◌∙◌}
-use lib.ListN.{length, take, drop, length-set}
-use Rattle.placing.proofs.Writing.{entry_length, written_none, written-more, written_all}
+use Rattle.placing.proofs.PageWords.{written_none, written-room, written-more, written_all}
 use Rattle.placing.proofs.words.write_page.Goals as goal
 
-pub loop-i-init : goal.loop-i-init
-loop-i-init c =
-    let a = c.args in
-    (search rules, simp length-set (omega arith), written_none a.page.now a.level a.from a.n a.es (omega arith) (search rules) (omega arith))
+pub loop-e-init : goal.loop-e-init
+loop-e-init c = written_none _ c.args.level (search rules)
 
-pub loop-i-preserved : goal.loop-i-preserved
-loop-i-preserved c =
-    let l = c.loop-i in
-    let a = c.args in (
-      omega arith,
-      ap length c.write_entry.ensures ∙ entry_length _ _ _ ∙ l.invariant.1,
-      written-more l.page _ l.i a.level (take a.n (drop a.from a.es)) _ l.invariant.1 (omega arith) l.invariant.2 c.entry_or_blank.ensures c.write_entry.ensures,
-    )
+pub append_entry-requires : goal.append_entry-requires
+append_entry-requires c = written-room _ _ _ c.args.es.now c.loop-e-test.true (search rules) c.loop-e.invariant
+
+pub loop-e-preserved : goal.loop-e-preserved
+loop-e-preserved c = written-more _ _ _ _ c.args.es.now c.loop-e-test.true (search rules) c.loop-e.invariant c.append_entry.ensures
 
 pub returns : goal.returns
-returns c =
-    let l = c.loop-i in
-    let a = c.args in
-    written_all l.page l.i a.level (take a.n (drop a.from a.es)) l.invariant.1 (omega arith) l.invariant.2
+returns c = written_all _ _ _ c.args.es.now (search rules) c.loop-e.invariant

@@ -1,12 +1,7 @@
 use mathlib.Core.Path.{◌≡◌}
-use Prim.Native.Nat.{◌≤◌, ◌-◌}
-use lib.ListN.{length, take, drop}
-use Rattle.pages.specs.Sizes.{FANOUT, PAGE_WORDS}
-use Rattle.placing.proofs.Writing.{WrittenTo}
+use lib.ListN.{take}
+use Rattle.pages.specs.Layout.{page_of, encode_page}
 use Rattle.placing.proofs.words.write_page.Given as goal
 
-abbrev pub invariant-loop-i : goal.invariant-loop-i
-invariant-loop-i l = (l.i ≤ FANOUT) × (length l.page ≡ PAGE_WORDS) × WrittenTo l.page l.i l.level (take l.n (drop l.from l.es))
-
-abbrev pub decreases-loop-i : goal.decreases-loop-i
-decreases-loop-i l = FANOUT - l.i
+abbrev pub invariant-loop-e : goal.invariant-loop-e
+invariant-loop-e l = l.page ≡ encode_page (page_of l.level (take l.e-index l.es))
