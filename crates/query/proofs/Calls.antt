@@ -1,51 +1,61 @@
 -- The answers of the calls on a sound table, refused and accepted.
-use Prim.Native.Nat.{ℕ, zero, suc, ◌+◌, ◌≤◌}
+use Prim.Native.Nat.{ℕ, zero, suc, ◌+◌, ◌≤◌, ◌<◌}
 use native.Mathlib.Omega.{arith}
 use native.Mathlib.Nat.{le_trans}
 use mathlib.Core.Path.{◌≡◌, refl, sym, ap, ap₂, subst, ◌∙◌}
 use mathlib.Core.Logic.{◌≢◌}
 use mathlib.Core.Bool.{Bool, true, false, not, cond}
 use mathlib.Core.List.{List, ◌++◌}
-use lib.ListN.{length, get_or, drop, replicate}
+use lib.ListN.{length, drop}
 use lib.Seq.{sets, sets-eq}
 use lib.Dec.{T, ltb, eqb}
-use borrow.Author.Tests.{ltb-false, le-ltb, ne_eqb}
-use Rattle.relations.specs.declared.AdmittedSet.{AdmittedSet}
-use Rattle.relations.specs.Query.{refusal_of, row_sets, admitted_of}
+use borrow.Author.Tests.{ltb-false, lt-ltb, le-ltb, ne_eqb}
+use Rattle.relations.specs.Query.{refusal_of, row_sets}
 use Rattle.relations.specs.Steps.{joined_of}
-use Rattle.relations.proofs.Answer.{accepted-rows}
 use Rattle.pages.specs.declared.Rect.{Rect}
-use Rattle.pages.specs.Sizes.{TABLE_WORDS, PAGES, PIECES}
+use Rattle.pages.specs.Sizes.{PAGES, PIECES}
 use Rattle.pages.specs.Rectangles.{valid}
 use Rattle.pages.specs.Refusals.{ACCEPTED, RECTANGLE_NOT_VALID, ANSWER_TOO_SHORT}
+use Rattle.pages.specs.Lists.{concat_map}
 use Rattle.pages.specs.Layout.{table_in}
 use Rattle.pages.specs.Sound.{sound}
 use Rattle.pages.proofs.Lists.{true-T, T_true}
 use Rattle.pages.proofs.Whole.{sound-in}
 use Rattle.pages.proofs.Counting.{count-few}
-use Rattle.soundness.proofs.Words.{pages-word, pieces-word}
 use Rattle.query.specs.declared.Answer.{Answer}
 use Rattle.query.specs.declared.Opened.{Opened}
+use Rattle.query.specs.declared.searches.Search.{Search}
 use Rattle.query.specs.Admission.{admits_rect, opens}
 use Rattle.query.specs.Opening.{opened_pages}
-use Rattle.query.specs.Calls.{refusal_from, sound_refusal, no_answer, no_opened, query_listing, query_opened, query_answer, query_sound, opened_sound}
-use Rattle.query.specs.Steps.{MARKS, admits_by, opens_by, hits_from, marked, Summed, marked_numbers, opened_listed}
+use Rattle.query.specs.Calls.{sound_refusal, no_answer, no_opened, query_listing, query_opened, query_answer, query_sound, opened_sound}
+use Rattle.query.specs.Steps.{admits_by, opens_by, hits_on, opened_listed}
+use Rattle.query.specs.Marks.{marked, no_marks, marked_numbers}
+use Rattle.query.specs.Search.{admits_in, opens_in, table_of, opened_in}
+use Rattle.query.specs.Visits.{VisitsAll}
 use Rattle.query.proofs.Root.{opened-few}
-use Rattle.query.proofs.Tests.{admits-same, opens-same, proper, reaches, set-refusal}
-use Rattle.query.proofs.Found.{found, found-summed, listing-few}
+use Rattle.query.proofs.Tests.{admits-same, opens-same, proper, reaches}
+use Rattle.query.proofs.Walking.{pieces-marked}
+use Rattle.query.proofs.Listed.{found, listing-few}
 
--- from the refusal of the clauses, as the source has it
-refusal_is : (q : Rect) (clauses : List ℕ) (set : AdmittedSet) (r size n m : ℕ) → set ≡ admitted_of clauses → r ≡ refusal_from q set.refusal size n → n ≡ m → r ≡ sound_refusal q clauses size m
-unfolding sound_refusal
-refusal_is q clauses set r size n m s e z = e ∙ ap₂ (λ x y. refusal_from q x size y) (ap (λ x. x.refusal) s ∙ set-refusal clauses) z
+-- the tests in their order
+module _ (q : Rect) (clauses : List ℕ) (size needed : ℕ) where
+  pub refused-rectangle : valid q ≡ false → RECTANGLE_NOT_VALID ≡ sound_refusal q clauses size needed
+  unfolding sound_refusal
+  refused-rectangle v = rw v
 
-module _ (w : List ℕ) (words : TABLE_WORDS ≤ length w) (q : Rect) (clauses : List ℕ) (set : AdmittedSet) (r size n : ℕ) (same : set ≡ admitted_of clauses)
-    (e : r ≡ refusal_from q set.refusal size n) where
-  pub query-refusal : n ≡ get_or w 2 0 → r ≡ sound_refusal q clauses size (table_in w).count
-  query-refusal z = refusal_is q clauses set r size n (table_in w).count same e (z ∙ sym (pieces-word w words))
+  module _ (v : valid q ≡ true) where
+    pub refused-clauses : (r : ℕ) → r ≡ refusal_of clauses → r ≢ 0 → r ≡ sound_refusal q clauses size needed
+    unfolding sound_refusal
+    refused-clauses r e n = rw (v, ← e, ne_eqb r 0 n)
 
-  pub opened-refusal : n ≡ get_or w 0 0 → r ≡ sound_refusal q clauses size (length (table_in w).pages)
-  opened-refusal z = refusal_is q clauses set r size n (length (table_in w).pages) same e (z ∙ sym (pages-word w words))
+    module _ (e : refusal_of clauses ≡ 0) where
+      pub refused-size : size < needed → ANSWER_TOO_SHORT ≡ sound_refusal q clauses size needed
+      unfolding sound_refusal
+      refused-size l = rw (v, e, lt-ltb size needed l)
+
+      pub accepted-all : needed ≤ size → 0 ≡ sound_refusal q clauses size needed
+      unfolding sound_refusal
+      accepted-all l = rw (v, e, le-ltb size needed l)
 
 pub record Accepted (q : Rect) (clauses : List ℕ) (size needed : ℕ) : Type 0 where
   pub rectangle : T (valid q)
@@ -89,32 +99,7 @@ module _ (w : List ℕ) (q : Rect) (clauses o : List ℕ) where
   unfolding opened_listed opened_sound
   opened-accepted p l o' e a c k s = rw (← e, ← a, c, s, sets-front o l k)
 
-module _ (w : List ℕ) (holds : T (sound w)) (q : Rect) (clauses : List ℕ) (set : AdmittedSet) (same : set ≡ admitted_of clauses) (ok : refusal_of clauses ≡ 0) where
-  rows_are : set.rows ≡ row_sets clauses
-  rows_are = ap (λ x. x.rows) same ∙ accepted-rows clauses ok
-
-  opens-is : opens_by (joined_of set.rows) q ≡ opens clauses q
-  opens-is = ap (λ x. opens_by (joined_of x) q) rows_are ∙ opens-same clauses q
-
-  admits-is : admits_by set.rows q ≡ admits_rect clauses q
-  admits-is = ap (λ x. admits_by x q) rows_are ∙ admits-same clauses q
-
-  pub opened-is : opened_pages (opens_by (joined_of set.rows) q) (table_in w) ≡ query_opened w q clauses
-  unfolding query_opened
-  opened-is = ap (λ f. opened_pages f (table_in w)) opens-is
-
-  -- the marks of the walk are those of the listing
-  module _ (v : T (valid q)) (m : List ℕ) (e : m ≡ marked (replicate MARKS 0) (hits_from (admits_by set.rows q) (opens_by (joined_of set.rows) q) (table_in w))) where
-    marks-are : m ≡ marked (replicate MARKS 0) (hits_from (admits_rect clauses q) (opens clauses q) (table_in w))
-    marks-are = e ∙ ap₂ (λ f g. marked (replicate MARKS 0) (hits_from f g (table_in w))) admits-is opens-is
-
-    pub listing-is : marked_numbers m ≡ query_listing w q clauses
-    unfolding query_listing
-    listing-is = ap marked_numbers marks-are ∙ found (table_in w) (sound-in w holds) (admits_rect clauses q) (opens clauses q) (reaches clauses q (proper q v))
-
-    summed-is : Summed m
-    summed-is = subst Summed (sym marks-are) (found-summed (table_in w) (sound-in w holds) (admits_rect clauses q) (opens clauses q) (reaches clauses q (proper q v)))
-
+-- what is listed and opened fits
 module _ (w : List ℕ) (holds : T (sound w)) (q : Rect) (clauses : List ℕ) where
   pub listing-room : length (query_listing w q clauses) ≤ (table_in w).count
   unfolding query_listing
@@ -123,40 +108,57 @@ module _ (w : List ℕ) (holds : T (sound w)) (q : Rect) (clauses : List ℕ) wh
   pub listing-small : length (query_listing w q clauses) ≤ PIECES
   listing-small = le_trans listing-room (count-few (table_in w) (sound-in w holds))
 
--- what the marks of an accepted query list
+  pub opened-room : length (query_opened w q clauses) ≤ length (table_in w).pages
+  unfolding query_opened
+  opened-room = opened-few (table_in w) (sound-in w holds) (opens clauses q)
+
+  pub opened-small : length (query_opened w q clauses) ≤ PAGES
+  opened-small = le_trans opened-room (sound-in w holds).most
+
 pub record Lists (w : List ℕ) (q : Rect) (clauses o m : List ℕ) : Type 0 where
-  pub summed : Summed m
   pub is : marked_numbers m ≡ query_listing w q clauses
   pub room : length (marked_numbers m) ≤ length o
   pub small : length (marked_numbers m) ≤ PIECES
 
-pub query-lists : (w : List ℕ) → T (sound w) → (q : Rect) (clauses : List ℕ) (set : AdmittedSet) (o m : List ℕ) → set ≡ admitted_of clauses
-    → sound_refusal q clauses (length o) (table_in w).count ≡ 0
-    → m ≡ marked (replicate MARKS 0) (hits_from (admits_by set.rows q) (opens_by (joined_of set.rows) q) (table_in w)) → Lists w q clauses o m
-query-lists w holds q clauses set o m same e d =
-    let a = accepted q clauses (length o) (table_in w).count e in
-    let l = listing-is w holds q clauses set same a.query a.rectangle m d in
-    record {
-      summed = summed-is w holds q clauses set same a.query a.rectangle m d;
-      is = l;
-      room = rw l (le_trans (listing-room w holds q clauses) a.room);
-      small = rw l (listing-small w holds q clauses);
-    }
+-- the search of an accepted query
+module _ (s : Search) (w : List ℕ) (q : Rect) (clauses : List ℕ) (table : s.table.now ≡ w) (reference : s.reference ≡ q) (rows : s.set.rows ≡ row_sets clauses) where
+  admits-is : admits_in s ≡ admits_rect clauses q
+  admits-is = ap₂ admits_by rows reference ∙ admits-same clauses q
 
-pub query-opened : (w : List ℕ) → T (sound w) → (q : Rect) (clauses : List ℕ) (set : AdmittedSet) (size p : ℕ) → set ≡ admitted_of clauses
-    → sound_refusal q clauses size (table_in w).count ≡ 0 → p ≡ length (opened_pages (opens_by (joined_of set.rows) q) (table_in w)) → p ≡ length (query_opened w q clauses)
-query-opened w holds q clauses set size p same e d =
-    d ∙ ap length (opened-is w holds q clauses set same (accepted q clauses size (table_in w).count e).query)
+  opens-is : opens_in s ≡ opens clauses q
+  opens-is = ap₂ opens_by (s.joined ∙ ap joined_of rows) reference ∙ opens-same clauses q
 
-pub record Opens (w : List ℕ) (q : Rect) (clauses o l : List ℕ) : Type 0 where
-  pub is : l ≡ query_opened w q clauses
-  pub room : length l ≤ length o
-  pub small : length l ≤ PAGES
+  pub opened-is : opened_in s ≡ query_opened w q clauses
+  unfolding query_opened
+  opened-is = ap₂ (λ f x. opened_pages f (table_in x)) opens-is table
 
-pub query-opens : (w : List ℕ) → T (sound w) → (q : Rect) (clauses : List ℕ) (set : AdmittedSet) (o : List ℕ) → set ≡ admitted_of clauses
-    → sound_refusal q clauses (length o) (length (table_in w).pages) ≡ 0 → Opens w q clauses o (opened_pages (opens_by (joined_of set.rows) q) (table_in w))
-query-opens w holds q clauses set o same e =
-    let F = sound-in w holds in
-    let a = accepted q clauses (length o) (length (table_in w).pages) e in
-    let f = opened-few (table_in w) F (opens_by (joined_of set.rows) q) in
-    record { is = opened-is w holds q clauses set same a.query; room = le_trans f a.room; small = le_trans f F.most }
+  holds : T (sound w)
+  holds = subst (λ x. T (sound x)) table s.holds
+
+  listed-is : (m : List ℕ) → m ≡ marked no_marks (concat_map (hits_on (admits_in s) (table_of s)) (opened_in s)) → marked_numbers m ≡ query_listing w q clauses
+  unfolding query_listing
+  listed-is m e =
+      let v : T (valid q) = subst (λ x. T (valid x)) reference s.proper in
+      ap marked_numbers (e ∙ ap (marked no_marks) (ap₂ (λ f g. concat_map (hits_on f (table_of s)) (opened_pages g (table_of s))) admits-is opens-is ∙ ap (λ x. concat_map (hits_on (admits_rect clauses q) (table_in x)) (opened_pages (opens clauses q) (table_in x))) table))
+      ∙ found (table_in w) (sound-in w holds) (admits_rect clauses q) (opens clauses q) (reaches clauses q (proper q v))
+
+  -- what the marks of its walk list
+  pub lists : (o u m : List ℕ) → 0 ≡ sound_refusal q clauses (length o) (table_in w).count → u ≡ no_marks
+      → VisitsAll (λ x n p y. y ≡ marked x (hits_on (admits_in s) (table_of s) p)) u 0 (opened_in s) m → Lists w q clauses o m
+  lists o u m e z v =
+      let l = listed-is m (pieces-marked (admits_in s) (table_of s) (opened_in s) u m 0 v ∙ ap (λ x. marked x (concat_map (hits_on (admits_in s) (table_of s)) (opened_in s))) z) in
+      record {
+        is = l;
+        room = rw l (le_trans (listing-room w holds q clauses) (accepted q clauses (length o) (table_in w).count (sym e)).room);
+        small = rw l (listing-small w holds q clauses);
+      }
+
+  -- and the pages that it opens
+  pub few-opened : length (opened_in s) ≤ PAGES
+  few-opened = rw opened-is (opened-small w holds q clauses)
+
+  pub opened-fits : (o : List ℕ) → 0 ≡ sound_refusal q clauses (length o) (length (table_in w).pages) → length (table_of s).pages ≤ length o
+  opened-fits o e = rw table (accepted q clauses (length o) (length (table_in w).pages) (sym e)).room
+
+  pub opened-writes : (o : List ℕ) → 0 ≡ sound_refusal q clauses (length o) (length (table_in w).pages) → length (opened_in s) ≤ length o
+  opened-writes o e = rw opened-is (le_trans (opened-room w holds q clauses) (accepted q clauses (length o) (length (table_in w).pages) (sym e)).room)

@@ -8,7 +8,7 @@ use mathlib.Core.List.{List, [], ◌∷◌, ◌++◌, append_assoc}
 use lib.ListN.{length, get_or, take, set, length-append}
 use lib.Seq.{sets, take_all}
 use Rattle.pages.specs.Lists.{concat_map}
-use Rattle.query.specs.Steps.{with_mark, marked}
+use Rattle.query.specs.Marks.{with_mark, marked}
 
 module _ {A B : Type 0} (f : A → List B) where
   pub concat-append : (xs ys : List A) → concat_map f (xs ++ ys) ≡ concat_map f xs ++ concat_map f ys

@@ -1,13 +1,13 @@
 -- The halves of a sum and of a difference of paired words do not touch, and their highest bits tell what lies beyond.
-use Prim.Native.Nat.{ℕ, ◌+◌, ◌-◌, ◌%◌, ◌≤◌, ◌<◌}
+use Prim.Native.Nat.{ℕ, ◌+◌, ◌-◌, ◌/◌, ◌%◌, ◌≤◌, ◌<◌}
 use native.Mathlib.Omega.{arith}
 use mathlib.Core.Path.{◌≡◌, refl, sym, ap, ap₂, ◌∙◌}
 use mathlib.Core.Bool.{Bool, true, false, ◌||◌}
 use lib.Dec.{leb, ltb}
 use borrow.Author.Tests.{leb-true, leb-false, le-leb, lt-leb}
 use Rattle.pages.specs.declared.Rect.{Rect}
-use Rattle.pages.specs.Rectangles.{rect_of}
-use Rattle.query.specs.Steps.{Small, HALF, paired_of, TOP, over, MOST, beyond}
+use Rattle.query.specs.Steps.{Small}
+use Rattle.query.specs.Window.{HALF, paired_of, TOP, over, MOST, window_in, Roomy, beyond}
 
 same-order : (a b c d : ℕ) → (a ≤ b → c ≤ d) → (b < a → d < c) → leb a b ≡ leb c d
 same-order a b c d f g = go (leb a b) refl
@@ -22,22 +22,31 @@ over-halves x y h =
     let low : paired_of x y % HALF ≡ x = omega arith in
     ap₂ ◌||◌ (same-order _ (paired_of x y) TOP y (λ k. omega arith) (λ k. omega arith)) (ap (leb TOP) low)
 
--- a and b are what a start may grow by, c and d what an end is taken from
-module _ (p : Rect) (s : Small p) (a b c d : ℕ) (la : a ≤ MOST) (lb : b ≤ MOST) (lc : MOST ≤ c) (ld : MOST ≤ d) (hc : c < HALF) where
-  starts : over (paired_of p.x1 p.y1 + paired_of a b) ≡ (ltb (MOST - b) p.y1 || ltb (MOST - a) p.x1)
+module _ (p : Rect) (s : Small p) (from to : ℕ) (r : Roomy from to) where
+  starts : over (paired_of p.x1 p.y1 + from) ≡ (ltb (MOST - from / HALF) p.y1 || ltb (MOST - from % HALF) p.x1)
   starts =
-      let e : paired_of p.x1 p.y1 + paired_of a b ≡ paired_of (p.x1 + a) (p.y1 + b) = omega arith in
+      let e : paired_of p.x1 p.y1 + from ≡ paired_of (p.x1 + from % HALF) (p.y1 + from / HALF) = omega arith in
       ap over e
-      ∙ over-halves (p.x1 + a) (p.y1 + b) (omega (arith, s.x-start))
-      ∙ ap₂ ◌||◌ (same-order TOP (p.y1 + b) _ p.y1 (λ k. omega arith) (λ k. omega arith)) (same-order TOP (p.x1 + a) _ p.x1 (λ k. omega arith) (λ k. omega arith))
+      ∙ over-halves (p.x1 + from % HALF) (p.y1 + from / HALF) (omega (arith, s.x-start, r.x-start))
+      ∙ ap₂ ◌||◌ (same-order TOP (p.y1 + from / HALF) _ p.y1 (λ k. omega (arith, r.y-start)) (λ k. omega (arith, r.y-start))) (same-order TOP (p.x1 + from % HALF) _ p.x1 (λ k. omega (arith, r.x-start)) (λ k. omega (arith, r.x-start)))
 
-  ends : over (paired_of c d - paired_of p.x2 p.y2) ≡ (ltb p.y2 (d - MOST) || ltb p.x2 (c - MOST))
+  ends : over (to - paired_of p.x2 p.y2) ≡ (ltb p.y2 (to / HALF - MOST) || ltb p.x2 (to % HALF - MOST))
   ends =
-      let e : paired_of c d - paired_of p.x2 p.y2 ≡ paired_of (c - p.x2) (d - p.y2) = omega (arith, s.x-end, s.y-end) in
+      let e : to - paired_of p.x2 p.y2 ≡ paired_of (to % HALF - p.x2) (to / HALF - p.y2) = omega (arith, s.x-end, s.y-end, r.x-end, r.y-end) in
       ap over e
-      ∙ over-halves (c - p.x2) (d - p.y2) (omega arith)
-      ∙ ap₂ ◌||◌ (same-order TOP (d - p.y2) _ (d - MOST) (λ k. omega arith) (λ k. omega arith)) (same-order TOP (c - p.x2) _ (c - MOST) (λ k. omega arith) (λ k. omega arith))
+      ∙ over-halves (to % HALF - p.x2) (to / HALF - p.y2) (omega (arith, r.x-most))
+      ∙ ap₂ ◌||◌ (same-order TOP (to / HALF - p.y2) _ (to / HALF - MOST) (λ k. omega (arith, r.y-end)) (λ k. omega (arith, r.y-end))) (same-order TOP (to % HALF - p.x2) _ (to % HALF - MOST) (λ k. omega (arith, r.x-end)) (λ k. omega (arith, r.x-end)))
 
-  pub beyond-paired : (over (paired_of p.x1 p.y1 + paired_of a b) || over (paired_of c d - paired_of p.x2 p.y2)) ≡ beyond (rect_of (c - MOST) (d - MOST) (MOST - a) (MOST - b)) p
-  unfolding beyond
+  pub beyond-paired : (over (paired_of p.x1 p.y1 + from) || over (to - paired_of p.x2 p.y2)) ≡ beyond (window_in from to) p
+  unfolding beyond window_in
   beyond-paired = ap₂ ◌||◌ starts ends
+
+-- a small window by its words
+pub window-kept : (w : Rect) → Small w → window_in (paired_of (MOST - w.x2) (MOST - w.y2)) (paired_of (MOST + w.x1) (MOST + w.y1)) ≡ w
+unfolding window_in
+window-kept w s =
+    let x1 : paired_of (MOST + w.x1) (MOST + w.y1) % HALF - MOST ≡ w.x1 = omega (arith, s.x-start) in
+    let y1 : paired_of (MOST + w.x1) (MOST + w.y1) / HALF - MOST ≡ w.y1 = omega (arith, s.x-start) in
+    let x2 : MOST - paired_of (MOST - w.x2) (MOST - w.y2) % HALF ≡ w.x2 = omega (arith, s.x-end) in
+    let y2 : MOST - paired_of (MOST - w.x2) (MOST - w.y2) / HALF ≡ w.y2 = omega (arith, s.y-end) in
+    λ i. record { x1 = x1 i; y1 = y1 i; x2 = x2 i; y2 = y2 i }

@@ -1,17 +1,17 @@
 -- The laws that the proofs of `query` cite; `Demand2` has what is owed of a query, `Claimed` what else is stated.
 pub mod Reading
 pub mod Concat
-pub mod Bits
 pub mod Marks
 pub mod Walking
 pub mod Members
 pub mod Pieces
-pub mod Found
+pub mod Listed
 pub mod Root
 pub mod Tests
 pub mod Halves
 pub mod Edges
-pub mod Known
+pub mod WindowLemmas
+pub mod Decided
 pub mod Calls
 pub mod Whole
 pub mod Parents

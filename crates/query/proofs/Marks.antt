@@ -1,51 +1,76 @@
--- What is marked is what was marked before or stands in the list, and the last word names its word; the marked numbers, word by word.
-use Prim.Native.Nat.{ℕ, zero, suc, ◌+◌, ◌-◌, ◌*◌, ◌/◌, ◌%◌, ◌^◌, ◌≤◌, ◌<◌}
+-- What is marked is what was marked before or stands in the list, and its word is named; the marked numbers, word by word.
+use Prim.Native.Nat.{ℕ, zero, suc, ◌+◌, ◌*◌, ◌/◌, ◌%◌, ◌^◌, ◌≤◌, ◌<◌}
 use native.Mathlib.Omega.{arith}
-use native.Mathlib.Nat.{add-zero, zero-add}
+use native.Mathlib.Nat.{add-zero, pow-suc}
 use native.Mathlib.Decide.{ℕ_discrete}
-use mathlib.Core.Path.{◌≡◌, refl, sym, ap, ap₂, ◌∙◌}
-use mathlib.Core.Logic.{◌≢◌}
+use mathlib.Core.Path.{◌≡◌, refl, sym, ap, ◌∙◌}
 use mathlib.Core.Bool.{Bool, true, false, ◌||◌, cond, or-true, or-false, or_assoc}
-use mathlib.Core.List.{List, [], ◌∷◌, ◌++◌, append-nil, append_assoc}
-use lib.ListN.{length, get_or, set, replicate, length-set, length-replicate, length-append}
-use lib.Seq.{get_or-set_same, get_or-set_other, set-get_or, sets}
+use mathlib.Core.List.{List, map, [], ◌∷◌, ◌++◌, append-nil, append_assoc}
+use lib.ListN.{length, get_or, set, length-set, length-replicate, length-append}
+use lib.Seq.{get_or-set_same, get_or-set_other, set-get_or, sets, length-sets}
 use lib.Bits.{bit_or, or_lt, or_zero_r}
 use mir.Val.{bool_byte}
 use lib.Pow.{pow-lt}
-use lib.Count.{count_trailing_zeros}
-use lib.Dec.{ltb, eqb}
+use lib.Dec.{ltb, eqb, eqb-zero-suc, eqb-suc-zero, eqb-suc-suc}
 use borrow.Author.Tests.{lt-ltb, eq-eqb, ne_eqb}
 use Rattle.relations.specs.Sets.{bit, ones_from}
 use Rattle.relations.proofs.Bits.{bit-half, bit-none, bit-or}
-use Rattle.relations.proofs.Lowest.{one_shifted, ones_none, lowest_one, Lowest, lowest}
+use Rattle.relations.proofs.Lowest.{even, odd, one_shifted, ones_none}
 use Rattle.pages.specs.Sizes.{PIECES}
 use Rattle.pages.specs.Lists.{one, concat_map, Every}
 use Rattle.pages.proofs.Lists.{not-both}
 use Rattle.pages.proofs.Zeros.{zero-at}
 use Rattle.query.specs.Listing.{rising}
 use Rattle.query.specs.Calls.{times}
-use Rattle.query.specs.Steps.{MARK_BITS, MARK_WORDS, is_marked, with_bit, with_mark, marked, Summed, marked_numbers}
+use Rattle.query.specs.Marks.{MARK_BITS, MARK_WORDS, is_marked, with_mark, marked, no_marks, Summed, numbers_in, marked_numbers}
 use Rattle.query.proofs.Concat.{concat-append, sets-append}
-use Rattle.query.proofs.Bits.{bit-pow, none_left}
 
--- the bit of a hit is set, and else nothing changes
-hit-bit : (hit : Bool) (m : List ℕ) (w j : ℕ) → j < MARK_BITS → set m w (bit_or (get_or m w 0) (bool_byte hit * 2 ^ j % 2 ^ 64)) ≡ cond hit (with_bit m w j) m
-hit-bit true m w j l = ap (λ x. set m w (bit_or (get_or m w 0) x)) (one_shifted 64 j l)
-hit-bit false m w j l = ap (λ x. set m w (bit_or (get_or m w 0) x)) (omega arith) ∙ ap (set m w) (or_zero_r (get_or m w 0)) ∙ set-get_or m w 0
+-- a power of two has one bit
+bit-pow : (j i : ℕ) → bit (2 ^ j) i ≡ eqb i j
+bit-pow zero zero = odd 1 refl
+bit-pow zero (suc i) = bit-half 1 i ∙ (bit-none i ∙ sym (eqb-suc-zero i))
+bit-pow (suc j) zero = even (2 ^ suc j) (omega (arith, pow-suc 2 j)) ∙ sym (eqb-zero-suc j)
+bit-pow (suc j) (suc i) =
+    let h : 2 ^ suc j / 2 ≡ 2 ^ j = omega (arith, pow-suc 2 j) in
+    bit-half (2 ^ suc j) i ∙ (ap (λ x. bit x i) h ∙ (bit-pow j i ∙ sym (eqb-suc-suc i j)))
 
-pub hit-mark : (hit : Bool) (m m' : List ℕ) (r : ℕ) → r < PIECES → m' ≡ set m (r / MARK_BITS) (bit_or (get_or m (r / MARK_BITS) 0) (bool_byte hit * 2 ^ (r % MARK_BITS) % 2 ^ 64))
-    → set m' MARK_WORDS (bit_or (get_or m' MARK_WORDS 0) (bool_byte hit * 2 ^ (r / MARK_BITS) % 2 ^ 64)) ≡ cond hit (with_mark m r) m
+-- the bit of a hit alone, as the source makes it
+abbrev hit_bit : Bool → ℕ → ℕ
+hit_bit hit j = bool_byte hit * 2 ^ j % 2 ^ 64
+
+or-hit : (hit : Bool) (n j : ℕ) → j < 64 → bit_or n (hit_bit hit j) ≡ cond hit (bit_or n (2 ^ j)) n
+or-hit true n j l = ap (bit_or n) (one_shifted 64 j l)
+or-hit false n j l = ap (bit_or n) (omega arith) ∙ or_zero_r n
+
+abbrev hit_words : Bool → List ℕ → ℕ → List ℕ
+hit_words hit m r = set m (r / MARK_BITS) (bit_or (get_or m (r / MARK_BITS) 0) (hit_bit hit (r % MARK_BITS)))
+
+pub hit-mark : (hit : Bool) (m : List ℕ) (r : ℕ) → hit_words hit m r ≡ cond hit (with_mark m r) m
 unfolding with_mark
-hit-mark true m m' r l e =
-    hit-bit true m' MARK_WORDS (r / MARK_BITS) (omega arith) ∙ ap (λ x. with_bit x MARK_WORDS (r / MARK_BITS)) (e ∙ hit-bit true m (r / MARK_BITS) (r % MARK_BITS) (omega arith))
-hit-mark false m m' r l e =
-    hit-bit false m' MARK_WORDS (r / MARK_BITS) (omega arith) ∙ e ∙ hit-bit false m (r / MARK_BITS) (r % MARK_BITS) (omega arith)
+hit-mark true m r = ap (set m (r / 64)) (or-hit true (get_or m (r / 64) 0) (r % 64) (omega arith))
+hit-mark false m r = ap (set m (r / 64)) (or-hit false (get_or m (r / 64) 0) (r % 64) (omega arith)) ∙ set-get_or m (r / 64) 0
 
-pub mark-at : (m : List ℕ) (r c : ℕ) → MARK_WORDS < length m → c < PIECES → is_marked (with_mark m r) c ≡ (is_marked m c || eqb r c)
-unfolding is_marked with_mark
-mark-at m r c k l = ap (λ x. bit x (c % 64)) (get_or-set_other (with_bit m (r / 64) (r % 64)) 16 (c / 64) _ 0 (λ e. omega arith)) ∙ go (ℕ_discrete (c / 64) (r / 64))
+-- a mark names its word
+pub hit-summed : (hit : Bool) (m : List ℕ) (n r : ℕ) → r < PIECES → Summed m n → Summed (hit_words hit m r) (bit_or n (hit_bit hit (r / MARK_BITS)))
+unfolding with_mark
+hit-summed hit m n r l s = rw (hit-mark hit m r, or-hit hit n (r / 64) (omega arith)) (go hit)
   where
-    go : Dec (c / 64 ≡ r / 64) → bit (get_or (with_bit m (r / 64) (r % 64)) (c / 64) 0) (c % 64) ≡ (bit (get_or m (c / 64) 0) (c % 64) || eqb r c)
+    other : (w : ℕ) → bit (bit_or n (2 ^ (r / 64))) w ≡ false → Dec (w ≡ r / 64) → get_or (with_mark m r) w 0 ≡ 0
+    other w z (yes e) = absurd (not-both (bit (bit_or n (2 ^ (r / 64))) w) (rw (bit-or, bit-pow, eq-eqb w (r / 64) e, or-true)) z)
+    other w z (no e) =
+        get_or-set_other m (r / 64) w _ 0 e ∙ s.unnamed w (sym (or-false (bit n w)) ∙ (rw (bit-or, bit-pow, ne_eqb w (r / 64) e) at z))
+
+    go : (b : Bool) → Summed (cond b (with_mark m r) m) (cond b (bit_or n (2 ^ (r / 64))) n)
+    go true =
+        let h : r / 64 < 16 = omega arith in
+        record { small = or_lt 16 n (2 ^ (r / 64)) s.small (pow-lt h); unnamed = λ w z. other w z (ℕ_discrete w (r / 64)) }
+    go false = s
+
+mark-at : (m : List ℕ) (r c : ℕ) → length m ≡ MARK_WORDS → c < PIECES → is_marked (with_mark m r) c ≡ (is_marked m c || eqb r c)
+unfolding is_marked with_mark
+mark-at m r c k l = go (ℕ_discrete (c / 64) (r / 64))
+  where
+    go : Dec (c / 64 ≡ r / 64) → bit (get_or (with_mark m r) (c / 64) 0) (c % 64) ≡ (bit (get_or m (c / 64) 0) (c % 64) || eqb r c)
     go (yes e) =
         let h : r / 64 < length m = omega arith in
         rw (e, get_or-set_same m (r / 64) (bit_or (get_or m (r / 64) 0) (2 ^ (r % 64))) 0 h, bit-or, bit-pow)
@@ -66,53 +91,19 @@ some_more : (b : Bool) (n : ℕ) → ltb 0 (one b + n) ≡ (b || ltb 0 n)
 some_more true n = lt-ltb 0 (1 + n) (omega arith)
 some_more false n = let e : 0 + n ≡ n = omega arith in rw e
 
-pub marked-is : (m xs : List ℕ) (c : ℕ) → MARK_WORDS < length m → c < PIECES → is_marked (marked m xs) c ≡ (is_marked m c || ltb 0 (times c xs))
+marked-is : (m xs : List ℕ) (c : ℕ) → length m ≡ MARK_WORDS → c < PIECES → is_marked (marked m xs) c ≡ (is_marked m c || ltb 0 (times c xs))
 unfolding marked
 marked-is m [] c k l = sym (or-false (is_marked m c))
 marked-is m (x ∷ xs) c k l =
-    marked-is (with_mark m x) xs c (omega (arith, mark-length m x)) l
+    marked-is (with_mark m x) xs c (mark-length m x ∙ k) l
     ∙ (ap (λ b. b || ltb 0 (times c xs)) (mark-at m x c k l)
     ∙ (or_assoc (is_marked m c) (eqb x c) (ltb 0 (times c xs)) ∙ ap (λ b. is_marked m c || b) (sym (some_more (eqb x c) (times c xs)))))
 
--- a mark names its word
-summed-mark : (m : List ℕ) (r : ℕ) → MARK_WORDS < length m → r < PIECES → Summed m → Summed (with_mark m r)
-unfolding with_mark
-summed-mark m r k l s =
-    let h : r / 64 < 16 = omega arith in
-    record { small = rw last (or_lt 16 (get_or m 16 0) (2 ^ (r / 64)) s.small (pow-lt h)); unnamed = λ w i z. other w i z (ℕ_discrete w (r / 64)) }
-  where
-    one_more : List ℕ
-    one_more = with_bit m (r / 64) (r % 64)
-
-    last : get_or (with_mark m r) 16 0 ≡ bit_or (get_or m 16 0) (2 ^ (r / 64))
-    last =
-        get_or-set_same one_more 16 (bit_or (get_or one_more 16 0) (2 ^ (r / 64))) 0 (simp length-set k)
-        ∙ ap (λ x. bit_or x (2 ^ (r / 64))) (get_or-set_other m (r / 64) 16 _ 0 (λ e. omega arith))
-
-    other : (w : ℕ) → w < 16 → bit (get_or (with_mark m r) 16 0) w ≡ false → Dec (w ≡ r / 64) → get_or (with_mark m r) w 0 ≡ 0
-    other w h z (yes e) = absurd (not-both (bit (get_or (with_mark m r) 16 0) w) (rw (last, bit-or, bit-pow, eq-eqb w (r / 64) e, or-true)) z)
-    other w h z (no e) =
-        get_or-set_other one_more 16 w _ 0 (λ d. omega arith)
-        ∙ (get_or-set_other m (r / 64) w _ 0 e
-        ∙ s.unnamed w h (sym (or-false (bit (get_or m 16 0) w)) ∙ (rw (last, bit-or, bit-pow, ne_eqb w (r / 64) e) at z)))
-
-summed-marked : (m xs : List ℕ) → MARK_WORDS < length m → Every (λ c. c < PIECES) xs → Summed m → Summed (marked m xs)
-unfolding marked
-summed-marked m [] k h s = s
-summed-marked m (x ∷ xs) k h s = summed-marked (with_mark m x) xs (omega (arith, mark-length m x)) h.1 (summed-mark m x k h.0 s)
-
--- from no marks
-module _ (n : ℕ) (k : MARK_WORDS < n) (xs : List ℕ) where
-  pub marked-new : (c : ℕ) → c < PIECES → is_marked (marked (replicate n 0) xs) c ≡ ltb 0 (times c xs)
-  unfolding is_marked
-  marked-new c l =
-      marked-is (replicate n 0) xs c (omega (arith, length-replicate {A = ℕ} n 0)) l
-      ∙ ap (λ b. b || ltb 0 (times c xs)) (ap (λ x. bit x (c % 64)) (zero-at n (c / 64)) ∙ bit-none (c % 64))
-
-  pub summed-new : Every (λ c. c < PIECES) xs → Summed (marked (replicate n 0) xs)
-  summed-new h =
-      summed-marked (replicate n 0) xs (omega (arith, length-replicate {A = ℕ} n 0)) h
-      record { small = rw (zero-at n 16) (omega arith); unnamed = λ w l z. zero-at n w }
+pub marked-new : (xs : List ℕ) (c : ℕ) → c < PIECES → is_marked (marked no_marks xs) c ≡ ltb 0 (times c xs)
+unfolding is_marked
+marked-new xs c l =
+    marked-is no_marks xs c (length-replicate {A = ℕ} 16 0) l
+    ∙ ap (λ b. b || ltb 0 (times c xs)) (ap (λ x. bit x (c % 64)) (zero-at 16 (c / 64)) ∙ bit-none (c % 64))
 
 pub rising-same : (n : ℕ) (p q : ℕ → Bool) → ((c : ℕ) → c < n → p c ≡ q c) → rising n p ≡ rising n q
 rising-same zero p q h = refl
@@ -131,13 +122,6 @@ rising-ones p (suc k) b n h =
     ∙ (rising-ones p k (suc b) (n / 2) (λ j l. ap p (omega arith) ∙ (h (suc j) (omega arith) ∙ bit-half n j))
     ∙ (append_assoc (rising b p) (cond (p b) (b ∷ []) []) (ones_from (suc b) k (n / 2)) ∙ ap (λ x. rising b p ++ (cond x (b ∷ []) [] ++ ones_from (suc b) k (n / 2))) z))
 
--- the numbers that word w marks, and those of the words that n names
-abbrev numbers_in : List ℕ → ℕ → List ℕ
-numbers_in m w = ones_from (MARK_BITS * w) MARK_BITS (get_or m w 0)
-
-abbrev numbers_of : List ℕ → ℕ → List ℕ
-numbers_of m n = concat_map (numbers_in m) (ones_from 0 MARK_WORDS n)
-
 -- one word more
 rising_word : (m : List ℕ) (w : ℕ) → rising (MARK_BITS * suc w) (is_marked m) ≡ rising (MARK_BITS * w) (is_marked m) ++ numbers_in m w
 unfolding is_marked
@@ -147,72 +131,95 @@ rising_word m w =
     ∙ rising-ones (is_marked m) 64 (MARK_BITS * w) (get_or m w 0)
     (λ j l. let a : (64 * w + j) / 64 ≡ w = omega arith in let b : (64 * w + j) % 64 ≡ j = omega arith in rw (a, b))
 
-module _ (m : List ℕ) (s : Summed m) where
-  abbrev last-names : ℕ → Bool
-  last-names = bit (get_or m MARK_WORDS 0)
-
-  -- the words that the last one does not name list nothing
-  rising-words : (k : ℕ) → k ≤ MARK_WORDS → rising (MARK_BITS * k) (is_marked m) ≡ concat_map (numbers_in m) (rising k last-names)
-  rising-words zero l = refl
-  rising-words (suc k) l =
+module _ (m : List ℕ) (n : ℕ) (s : Summed m n) where
+  -- the words that are not named list nothing
+  rising-words : (k : ℕ) → rising (MARK_BITS * k) (is_marked m) ≡ concat_map (numbers_in m) (rising k (bit n))
+  rising-words zero = refl
+  rising-words (suc k) =
       rising_word m k
-      ∙ (ap (λ x. x ++ numbers_in m k) (rising-words k (omega arith))
-      ∙ (ap (λ x. concat_map (numbers_in m) (rising k last-names) ++ x) (go (last-names k) refl) ∙ sym (concat-append (numbers_in m) (rising k last-names) (cond (last-names k) (k ∷ []) []))))
+      ∙ (ap (λ x. x ++ numbers_in m k) (rising-words k)
+      ∙ (ap (λ x. concat_map (numbers_in m) (rising k (bit n)) ++ x) (go (bit n k) refl) ∙ sym (concat-append (numbers_in m) (rising k (bit n)) (cond (bit n k) (k ∷ []) []))))
     where
-      go : (b : Bool) → last-names k ≡ b → numbers_in m k ≡ concat_map (numbers_in m) (cond b (k ∷ []) [])
+      go : (b : Bool) → bit n k ≡ b → numbers_in m k ≡ concat_map (numbers_in m) (cond b (k ∷ []) [])
       go true e = sym (append-nil (numbers_in m k))
-      go false e = ap (ones_from (MARK_BITS * k) MARK_BITS) (s.unnamed k l e) ∙ ones_none (MARK_BITS * k) MARK_BITS
+      go false e = ap (ones_from (MARK_BITS * k) MARK_BITS) (s.unnamed k e) ∙ ones_none (MARK_BITS * k) MARK_BITS
 
-  named-all : numbers_of m (get_or m MARK_WORDS 0) ≡ marked_numbers m
+  pub named-all : concat_map (numbers_in m) (ones_from 0 MARK_WORDS n) ≡ marked_numbers m
   unfolding marked_numbers
   named-all =
-      ap (concat_map (numbers_in m)) (sym (rising-ones last-names MARK_WORDS 0 (get_or m MARK_WORDS 0) (λ j l. ap last-names (omega arith))))
-      ∙ sym (rising-words MARK_WORDS (omega arith))
+      ap (concat_map (numbers_in m)) (sym (rising-ones (bit n) MARK_WORDS 0 n (λ j l. ap (bit n) (omega arith))))
+      ∙ sym (rising-words MARK_WORDS)
 
--- what the words in `rest` list, written from `next` on, makes the whole
-pub record Listing (m : List ℕ) (rest next : ℕ) (o₀ o : List ℕ) : Type 0 where
-  pub small : rest < 2 ^ MARK_WORDS
-  pub count : next + length (numbers_of m rest) ≡ length (marked_numbers m)
-  pub words : sets o next (numbers_of m rest) ≡ sets o₀ 0 (marked_numbers m)
+-- the ones of a word, counted from elsewhere
+pub ones-shift : (b a k n : ℕ) → map (λ j. b + j) (ones_from a k n) ≡ ones_from (b + a) k n
+unfolding ones_from
+ones-shift b a zero n = refl
+ones-shift b a (suc k) n = go (bit n 0) (ones-shift b (suc a) k (n / 2) ∙ ap (λ x. ones_from x k (n / 2)) (omega arith))
+  where
+    go : (t : Bool) → map (λ j. b + j) (ones_from (suc a) k (n / 2)) ≡ ones_from (suc (b + a)) k (n / 2)
+        → map (λ j. b + j) (cond t (a ∷ []) [] ++ ones_from (suc a) k (n / 2)) ≡ cond t ((b + a) ∷ []) [] ++ ones_from (suc (b + a)) k (n / 2)
+    go true e = ap (λ x. (b + a) ∷ x) e
+    go false e = e
 
-pub listing-all : (m o : List ℕ) → Summed m → Listing m (get_or m MARK_WORDS 0) 0 o o
-listing-all m o s =
-    let e = named-all m s in
-    record { small = s.small; count = omega (arith, ap length e); words = ap (sets o 0) e }
+-- they lie in the word
+ones-below : (b k m n : ℕ) → b + k ≤ m → Every (λ j. j < m) (ones_from b k n)
+unfolding ones_from
+ones-below b zero m n h = tt
+ones-below b (suc k) m n h = go (bit n 0) (ones-below (suc b) k m (n / 2) (omega arith))
+  where
+    go : (t : Bool) → Every (λ j. j < m) (ones_from (suc b) k (n / 2)) → Every (λ j. j < m) (cond t (b ∷ []) [] ++ ones_from (suc b) k (n / 2))
+    go true e = (omega arith, e)
+    go false e = e
 
-module _ (m : List ℕ) (rest next : ℕ) (o₀ o : List ℕ) (s : Listing m rest next o₀ o) where
-  -- the word of the lowest bit, which is taken away
-  module _ (z : rest ≢ 0) where
-    abbrev at : ℕ
-    at = count_trailing_zeros MARK_WORDS rest
+-- a small word has its ones in the lower places
+ones-low : (b k m n : ℕ) → n < 2 ^ k → ones_from b (k + m) n ≡ ones_from b k n
+unfolding ones_from
+ones-low b zero m n h =
+    let e : n ≡ 0 = omega arith in
+    let z : 0 + m ≡ m = omega arith in
+    rw (e, z) (ones_none b m)
+ones-low b (suc k) m n h =
+    let e : suc k + m ≡ suc (k + m) = omega arith in
+    rw e (ap (λ x. cond (bit n 0) (b ∷ []) [] ++ x) (ones-low (suc b) k m (n / 2) (omega (arith, pow-suc 2 k))))
 
-    abbrev word : List ℕ
-    word = numbers_in m at
+-- what is still to be written, from place `next` on, makes the whole
+pub record Writing (all rest : List ℕ) (next at : ℕ) (o₀ o : List ℕ) : Type 0 where
+  pub count : next + length rest ≡ at + length all
+  pub words : sets o next rest ≡ sets o₀ at all
+  pub size : length o ≡ length o₀
 
-    abbrev left : List ℕ
-    left = numbers_of m (rest - lowest_one MARK_WORDS rest)
+pub writing-all : (all rest : List ℕ) (at : ℕ) (o : List ℕ) → rest ≡ all → Writing all rest at at o o
+writing-all all rest at o e = record { count = ap (λ x. at + length x) e; words = ap (sets o at) e; size = refl }
 
-    low : Lowest MARK_WORDS rest
-    low = lowest MARK_WORDS rest z s.small
+-- one list of what is left is written
+pub writing-more : (all rest xs ys : List ℕ) (next at : ℕ) (o₀ o o' : List ℕ) (r : ℕ) → Writing all rest next at o₀ o → rest ≡ xs ++ ys → r ≡ next + length xs → o' ≡ sets o next xs
+    → Writing all ys r at o₀ o'
+writing-more all rest xs ys next at o₀ o o' r w e n h = record {
+  count = omega (arith, w.count, ap length e, length-append xs ys);
+  words = rw (h, n) (sym (sets-append o next xs ys) ∙ (ap (sets o next) (sym e) ∙ w.words));
+  size = ap length h ∙ (simp length-sets w.size);
+}
 
-    pub listing-place : at < MARK_WORDS
-    listing-place = low.place
+pub writing-end : (all rest : List ℕ) (next at : ℕ) (o₀ o : List ℕ) → Writing all rest next at o₀ o → rest ≡ [] → (next ≡ at + length all) × (o ≡ sets o₀ at all)
+writing-end all rest next at o₀ o w e = (omega (arith, w.count, ap length e), ap (sets o next) (sym e) ∙ w.words)
 
-    pub listing-less : (lowest_one MARK_WORDS rest ≤ rest) × (rest - lowest_one MARK_WORDS rest < rest)
-    listing-less = (low.small, low.less)
+-- what is left has room
+pub writing-room : (all rest xs ys : List ℕ) (next at : ℕ) (o₀ o : List ℕ) → Writing all rest next at o₀ o → rest ≡ xs ++ ys → next + length xs ≤ at + length all
+writing-room all rest xs ys next at o₀ o w e = omega (arith, w.count, ap length e, length-append xs ys)
 
-    first_word : numbers_of m rest ≡ word ++ left
-    first_word = ap (concat_map (numbers_in m)) (low.first 0) ∙ rw zero-add
+-- the places that are left of word w, each below 64, and its numbers
+abbrev pub numbers_at : ℕ → List ℕ → List ℕ
+numbers_at w places = map (λ j. MARK_BITS * w + j) places
 
-    pub listing-room : next + length word ≤ length (marked_numbers m)
-    listing-room = omega (arith, s.count, ap length first_word, length-append word left)
+pub word-numbers : (m : List ℕ) (w : ℕ) → numbers_at w (ones_from 0 64 (get_or m w 0)) ≡ numbers_in m w
+word-numbers m w = ones-shift (64 * w) 0 64 (get_or m w 0) ∙ ap (λ b. ones_from b 64 (get_or m w 0)) (add-zero (64 * w))
 
-    pub listing-word : (r : ℕ) (o' : List ℕ) → (r ≡ next + length word) × (o' ≡ sets o next word) → Listing m (rest - lowest_one MARK_WORDS rest) r o₀ o'
-    listing-word r o' h = record {
-      small = omega (arith, s.small);
-      count = omega (arith, h.0, s.count, ap length first_word, length-append word left);
-      words = ap₂ (λ a b. sets a b left) h.1 h.0 ∙ (sym (sets-append o next word left) ∙ (ap (sets o next) (sym first_word) ∙ s.words));
-    }
+pub places-below : (n : ℕ) → Every (λ j. j < 64) (ones_from 0 64 n)
+places-below n = ones-below 0 64 64 n (omega arith)
 
-  pub listing-end : rest ≡ 0 → (next ≡ length (marked_numbers m)) × (o ≡ sets o₀ 0 (marked_numbers m))
-  listing-end z = none_left (numbers_of m rest) next (length (marked_numbers m)) o (sets o₀ 0 (marked_numbers m)) (ap (numbers_of m) z ∙ ap (concat_map (numbers_in m)) (ones_none 0 MARK_WORDS)) s.count s.words
+module _ (m : List ℕ) (n : ℕ) (s : Summed m n) where
+  pub named-below : Every (λ w. w < MARK_WORDS) (ones_from 0 64 n)
+  named-below = rw (ones-low 0 16 48 n s.small) (ones-below 0 16 16 n (omega arith))
+
+  pub named-numbers : concat_map (numbers_in m) (ones_from 0 64 n) ≡ marked_numbers m
+  named-numbers = ap (concat_map (numbers_in m)) (ones-low 0 16 48 n s.small) ∙ named-all m n s

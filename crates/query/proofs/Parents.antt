@@ -23,7 +23,7 @@ use Rattle.pages.proofs.Entries.{Fits, leaf-children, leaf-pieces, above-childre
 use Rattle.pages.proofs.Walk.{Within, bounds-each}
 use Rattle.query.specs.Opening.{opened_under, opened_pages}
 use Rattle.query.specs.Calls.{times}
-use Rattle.query.proofs.Found.{every-entry, sum-concat}
+use Rattle.query.proofs.Listed.{every-entry, sum-concat}
 use Rattle.query.proofs.Root.{opened-once}
 use Rattle.query.proofs.Tests.{Proper, proper, around}
 

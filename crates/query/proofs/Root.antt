@@ -5,10 +5,8 @@ use mathlib.Core.Path.{◌≡◌, ap, ap₂, ◌∙◌}
 use mathlib.Core.Bool.{Bool, cond}
 use mathlib.Core.List.{List, []}
 use lib.ListN.{length}
-use lib.Seq.{sets}
 use lib.Dec.{T, eqb}
 use Rattle.pages.specs.Under.{seen}
-use Rattle.relations.specs.Steps.{joined_of}
 use Rattle.pages.specs.declared.Rect.{Rect}
 use Rattle.pages.specs.Sizes.{TABLE_WORDS, PAGES}
 use Rattle.pages.specs.Lists.{one, sum}
@@ -21,9 +19,9 @@ use Rattle.pages.proofs.Whole.{sound-in}
 use Rattle.pages.proofs.Visit.{seen-root, seen-once}
 use Rattle.query.specs.Opening.{opened_under, opened_pages}
 use Rattle.query.specs.Calls.{times}
-use Rattle.query.specs.Steps.{SoundPage, admits_by, opens_by, hits_under, hits_from, marked}
+use Rattle.query.specs.Steps.{SoundPage}
 use Rattle.query.proofs.Reading.{own-page}
-use Rattle.query.proofs.Found.{every-entry, sum-concat}
+use Rattle.query.proofs.Listed.{every-entry, sum-concat}
 
 opened-seen : (o : Rect → Bool) (g : ℕ → ℕ) (ps : List Page) (l p : ℕ) → sum g (opened_under o ps l p) ≤ seen g ps l p
 unfolding opened_under seen
@@ -59,10 +57,6 @@ module _ (t : Table) (r l : ℕ) (root : r ≡ t.root) (level : l ≡ (page t r)
   unfolding opened_pages
   opened-from o = ap₂ (opened_under o t.pages) level-is root
 
-  pub hits-from : (admit o : Rect → Bool) → hits_under admit o t.pages l r ≡ hits_from admit o t
-  unfolding hits_from
-  hits-from admit o = ap₂ (hits_under admit o t.pages) level-is root
-
 module _ (w : List ℕ) (words : TABLE_WORDS ≤ length w) (holds : T (sound w)) (r l : ℕ) (root : r ≡ (table_in w).root) where
   pub root-inside : r < length (table_in w).pages
   root-inside = omega (arith, root, (sound-in w holds).top)
@@ -76,20 +70,3 @@ module _ (w : List ℕ) (words : TABLE_WORDS ≤ length w) (holds : T (sound w))
 
   pub root-few : (o : Rect → Bool) → l ≡ (page (table_in w) r).level → length (opened_under o (table_in w).pages l r) ≤ PAGES
   root-few o level = omega (arith, root-room o level, (sound-in w holds).most)
-
--- what the walk from the root gives; q' is the reference as the frame has it
-pub search-done : (t : Table) (r l : ℕ) → r ≡ t.root → l ≡ (page t r).level → (rows below : List ℕ) (q q' : Rect) (n : ℕ) (m m' : List ℕ) → below ≡ joined_of rows → q' ≡ q
-    → (n ≡ length (opened_under (opens_by below q') t.pages l r)) × (m' ≡ marked m (hits_under (admits_by rows q') (opens_by below q') t.pages l r))
-    → (n ≡ length (opened_pages (opens_by (joined_of rows) q) t)) × (m' ≡ marked m (hits_from (admits_by rows q) (opens_by (joined_of rows) q) t))
-search-done t r l root level rows below q q' n m m' e f h =
-    let a : opened_under (opens_by below q') t.pages l r ≡ opened_pages (opens_by (joined_of rows) q) t = opened-from t r l root level (opens_by below q') ∙ ap₂ (λ x y. opened_pages (opens_by x y) t) e f in
-    let b : hits_under (admits_by rows q') (opens_by below q') t.pages l r ≡ hits_from (admits_by rows q) (opens_by (joined_of rows) q) t =
-    hits-from t r l root level (admits_by rows q') (opens_by below q') ∙ ap₂ (λ x y. hits_from (admits_by rows y) (opens_by x y) t) e f in
-    (h.0 ∙ ap length a, h.1 ∙ ap (marked m) b)
-
-pub list_done : (t : Table) (r l : ℕ) → r ≡ t.root → l ≡ (page t r).level → (rows below : List ℕ) (q q' : Rect) (n : ℕ) (o o' : List ℕ) → below ≡ joined_of rows → q' ≡ q
-    → (n ≡ 0 + length (opened_under (opens_by below q') t.pages l r)) × (o' ≡ sets o 0 (opened_under (opens_by below q') t.pages l r))
-    → (n ≡ length (opened_pages (opens_by (joined_of rows) q) t)) × (o' ≡ sets o 0 (opened_pages (opens_by (joined_of rows) q) t))
-list_done t r l root level rows below q q' n o o' e f h =
-    let a : opened_under (opens_by below q') t.pages l r ≡ opened_pages (opens_by (joined_of rows) q) t = opened-from t r l root level (opens_by below q') ∙ ap₂ (λ x y. opened_pages (opens_by x y) t) e f in
-    (omega (arith, h.0, ap length a), h.1 ∙ ap (sets o 0) a)

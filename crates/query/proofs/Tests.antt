@@ -1,12 +1,12 @@
 -- The tests by row sets and by joined rows are those of the definitions; an admitted rectangle reaches the page that holds it.
-use Prim.Native.Nat.{ℕ, zero, suc, ◌<◌}
+use Prim.Native.Nat.{ℕ, ◌<◌}
 use native.Mathlib.Omega.{arith}
-use mathlib.Core.Path.{◌≡◌, refl}
+use mathlib.Core.Path.{◌≡◌}
 use mathlib.Core.Logic.{◌↔◌}
 use mathlib.Core.Bool.{true}
 use mathlib.Core.List.{List}
 use lib.Dec.{T}
-use Rattle.relations.specs.Query.{refusal_of, row_sets, answer, admitted_of}
+use Rattle.relations.specs.Query.{row_sets}
 use Rattle.relations.specs.Steps.{joined_of}
 use Rattle.relations.proofs.Sides.{is_code}
 use Rattle.relations.proofs.Pages.{rows-have, page-test, may-hold, holds-inside}
@@ -55,14 +55,6 @@ reaches clauses q pq r s v w a =
     true-T _
     (holds-inside clauses s.x1 s.y1 s.x2 s.y2 q.x1 q.y1 q.x2 q.y2 ps.on-x ps.on-y pq.on-x pq.on-y r.x1 r.y1 r.x2 r.y2
     w.left w.bottom pr.on-x pr.on-y w.right w.head (T_true _ a))
-
-pub set-refusal : (clauses : List ℕ) → (admitted_of clauses).refusal ≡ refusal_of clauses
-unfolding admitted_of
-set-refusal clauses = go (refusal_of clauses)
-  where
-    go : (r : ℕ) → (answer r clauses).refusal ≡ r
-    go zero = refl
-    go (suc r) = refl
 
 -- the page test is the quarter-unit rule
 pub quarter-rule : (clauses : List ℕ) (q s : Rect) → Proper q → Proper s → QuarterIn clauses q s ↔ (opens clauses q s ≡ true)

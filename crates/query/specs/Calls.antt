@@ -1,5 +1,7 @@
 -- The query and the opened-pages call: refusals in order, what each returns, and the words of the answer slice that it leaves.
-use Rattle.std.specs.Prelude.{ℕ, not, cond, ◌≡◌, List, [], ◌++◌, length, take, drop, leb, ltb, eqb}
+use Rattle.std.specs.Prelude.{ℕ, not, cond, ◌≡◌, List, [], ◌++◌, length, take, drop, leb, ltb, eqb, Result, Ok, Err}
+use Rattle.refusals.specs.declared.Refusal.{Refusal}
+use Rattle.refusals.specs.Numbers.{number_of}
 use Rattle.relations.specs.Query.{refusal_of}
 use Rattle.pages.specs.declared.Rect.{Rect}
 use Rattle.pages.specs.Sizes.{TABLE_WORDS}
@@ -8,6 +10,7 @@ use Rattle.pages.specs.Rectangles.{valid}
 use Rattle.pages.specs.Refusals.{ACCEPTED, TABLE_TOO_SHORT, RECTANGLE_NOT_VALID, TABLE_NOT_SOUND, ANSWER_TOO_SHORT}
 use Rattle.pages.specs.Layout.{table_in}
 use Rattle.pages.specs.Sound.{sound}
+use Rattle.query.specs.declared.Found.{Found}
 use Rattle.query.specs.declared.Answer.{Answer}
 use Rattle.query.specs.declared.Opened.{Opened}
 use Rattle.query.specs.Admission.{admits_rect, opens}
@@ -32,6 +35,15 @@ no_answer refusal = record { refusal = refusal; hits = 0; opened = 0 }
 
 abbrev pub no_opened : ℕ → Opened
 no_opened refusal = record { refusal = refusal; count = 0 }
+
+-- what C gets of what the calls return
+abbrev pub answer_of : Result Found Refusal → Answer
+answer_of (Ok found) = record { refusal = ACCEPTED; hits = found.hits; opened = found.opened }
+answer_of (Err why) = no_answer (number_of why)
+
+abbrev pub opened_of : Result ℕ Refusal → Opened
+opened_of (Ok count) = record { refusal = ACCEPTED; count = count }
+opened_of (Err why) = no_opened (number_of why)
 
 -- the listing of a table's pieces
 unfoldable pub query_listing : List ℕ → Rect → List ℕ → List ℕ

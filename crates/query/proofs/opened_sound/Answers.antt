@@ -1,37 +1,43 @@
 -- Refused, or the walk writes the opened pages.
 use native.Mathlib.Omega.{arith}
-use mathlib.Core.Path.{sym, ◌∙◌}
-use Rattle.query.proofs.Calls.{opened-refusal, accepted, opened-refused, opened-accepted, query-opens}
+use mathlib.Core.Path.{sym, ap, ◌∙◌}
+use Rattle.std.proofs.lemmas.Result.{err_from_is_err_and}
+use Rattle.relations.proofs.Answer.{number-some}
+use Rattle.soundness.proofs.Words.{pages-word}
+use Rattle.query.specs.declared.walks.Lister.{Lister}
+use Rattle.query.specs.Calls.{sound_refusal}
+use Rattle.query.proofs.Calls.{accepted, opened-refused, opened-accepted, opened-is, few-opened, opened-fits, opened-writes}
+use Rattle.query.proofs.Walking.{numbers-written}
 use Rattle.query.proofs.opened_sound.Goals as goal
 
-pub returns-then-refusal-ne-ACCEPTED : goal.returns-then-refusal-ne-ACCEPTED
-returns-then-refusal-ne-ACCEPTED c =
-    let g = c in
-    let s = c.admitted-set.ensures in
-    opened-refused _ _ _ _ _ c.if-refusal-ne-ACCEPTED.true (opened-refusal _ g.requires.0 _ _ _ _ _ _ s c.refused-refusal.ensures c.to_index.ensures)
+pub returns-in_err-set : goal.returns-in_err-set
+returns-in_err-set c =
+    let a = c.args in
+    let p = err_from_is_err_and c.from_residual.result c.from_residual.ensures.1 in
+    let e = c.in_err-set.ensures.refusal ∙ ap (sound_refusal a.reference a.clauses.now _) (sym (pages-word a.table.now c.requires.0)) in
+    rw (p.1, p.2) (opened-refused a.table.now _ _ _ _ (number-some _) e)
 
-pub list_opened-count-requires : goal.list_opened-count-requires
-list_opened-count-requires c =
-    let g = c in
-    let s = c.admitted-set.ensures in
-    let e = opened-refusal _ g.requires.0 _ _ _ _ _ _ s c.refused-refusal.ensures c.to_index.ensures in
-    let k = accepted _ _ _ _ (sym e ∙ c.if-refusal-ne-ACCEPTED.false) in
-    (g.requires.0, g.requires.1, k.room, k.rectangle)
+pub new-search-requires-clause-proper : goal.new-search-requires-clause-proper
+new-search-requires-clause-proper c = (accepted _ _ _ _ (sym c.in_ok-set.ensures.refusal)).rectangle
+
+pub run-count-requires : goal.run-count-requires
+run-count-requires c =
+    let a = c.args in
+    let s = c.new-search in
+    let e = c.in_ok-set.ensures.refusal ∙ ap (sound_refusal a.reference a.clauses.now _) (sym (pages-word a.table.now c.requires.0)) in
+    opened-fits s.result _ _ _ s.ensures.table s.ensures.reference (ap (λ x. x.rows) s.ensures.set ∙ c.in_ok-set.ensures.rows) a.answer.now e
 
 pub overflow_cast-result : goal.overflow_cast-result
 overflow_cast-result c =
-    let g = c in
-    let s = c.admitted-set.ensures in
-    let e = opened-refusal _ g.requires.0 _ _ _ _ _ _ s c.refused-refusal.ensures c.to_index.ensures in
-    let k = query-opens _ g.requires.1 _ _ _ g.args.answer.now s (sym e ∙ c.if-refusal-ne-ACCEPTED.false) in
-    omega (arith, k.small, c.list_opened-count.ensures.0)
+    let s = c.new-search in
+    omega (arith, c.run-count.ensures.count, few-opened s.result _ _ _ s.ensures.table s.ensures.reference (ap (λ x. x.rows) s.ensures.set ∙ c.in_ok-set.ensures.rows))
 
 pub returns : goal.returns
 returns c =
-    let g = c in
-    let s = c.admitted-set.ensures in
-    let e = opened-refusal _ g.requires.0 _ _ _ _ _ _ s c.refused-refusal.ensures c.to_index.ensures in
-    let z = sym e ∙ c.if-refusal-ne-ACCEPTED.false in
-    let k = query-opens _ g.requires.1 _ _ _ g.args.answer.now s z in
-    let m = c.list_opened-count.ensures in
-    opened-accepted _ _ _ _ _ _ _ (sym z) k.is m.0 k.room m.1
+    let a = c.args in
+    let s = c.new-search in
+    let e = c.in_ok-set.ensures.refusal ∙ ap (sound_refusal a.reference a.clauses.now _) (sym (pages-word a.table.now c.requires.0)) in
+    let rows = ap (λ x. x.rows) s.ensures.set ∙ c.in_ok-set.ensures.rows in
+    let l = opened-is s.result _ _ _ s.ensures.table s.ensures.reference rows in
+    let k = numbers-written (λ (x : Lister). x.words.now) (λ x. x.words.ghost_name) _ _ _ 0 c.run-count.ensures.visited in
+    opened-accepted a.table.now _ _ _ _ _ _ e l c.run-count.ensures.count (opened-writes s.result _ _ _ s.ensures.table s.ensures.reference rows _ e) (grind arith)

@@ -1,44 +1,57 @@
 -- Refused, or the marks of the walk are the listing.
 use native.Mathlib.Omega.{arith}
-use mathlib.Core.Path.{sym, ◌∙◌}
-use Rattle.query.proofs.Calls.{query-refusal, accepted, query-refused, query-accepted, query-lists, query-opened}
+use mathlib.Core.Path.{sym, ap, ◌∙◌}
+use lib.ListN.{length}
+use Rattle.std.proofs.lemmas.Result.{err_from_is_err_and}
+use Rattle.pages.proofs.Whole.{sound-in}
+use Rattle.relations.proofs.Answer.{number-some}
+use Rattle.soundness.proofs.Words.{pieces-word}
+use Rattle.query.specs.Calls.{sound_refusal}
+use Rattle.query.proofs.Calls.{accepted, query-refused, query-accepted, opened-is, few-opened, lists}
 use Rattle.query.proofs.query_sound.Goals as goal
 
-pub returns-then-refusal-ne-ACCEPTED : goal.returns-then-refusal-ne-ACCEPTED
-returns-then-refusal-ne-ACCEPTED c =
-    let g = c in
-    let e = query-refusal _ g.requires.0 _ _ _ _ _ _ c.admitted-set.ensures c.refused-refusal.ensures c.to_index.ensures in
-    query-refused _ _ _ _ _ c.if-refusal-ne-ACCEPTED.true e
+pub returns-in_err-set : goal.returns-in_err-set
+returns-in_err-set c =
+    let a = c.args in
+    let p = err_from_is_err_and c.from_residual.result c.from_residual.ensures.1 in
+    let e = c.in_err-set.ensures.refusal ∙ ap (sound_refusal a.reference a.clauses.now _) (sym (pieces-word a.table.now c.requires.0)) in
+    rw (p.1, p.2) (query-refused a.table.now _ _ _ _ (number-some _) e)
 
-pub search-opened-requires : goal.search-opened-requires
-search-opened-requires c =
-    let g = c in
-    let e = query-refusal g.args.table.now g.requires.0 _ _ _ _ _ _ c.admitted-set.ensures c.refused-refusal.ensures c.to_index.ensures in
-    (g.requires.0, g.requires.1, (accepted _ _ _ _ (sym e ∙ c.if-refusal-ne-ACCEPTED.false)).rectangle)
+pub new-search-requires-clause-proper : goal.new-search-requires-clause-proper
+new-search-requires-clause-proper c = (accepted _ _ _ _ (sym c.in_ok-set.ensures.refusal)).rectangle
 
-pub list_marks-hits-requires : goal.list_marks-hits-requires
-list_marks-hits-requires c =
-    let g = c in
-    let s = c.admitted-set.ensures in
-    let e = query-refusal _ g.requires.0 _ _ _ _ _ _ s c.refused-refusal.ensures c.to_index.ensures in
-    let k = query-lists _ g.requires.1 _ _ _ g.args.answer.now _ s (sym e ∙ c.if-refusal-ne-ACCEPTED.false) c.search-opened.ensures.1 in
-    (k.summed, k.room)
+pub run-opened-requires : goal.run-opened-requires
+run-opened-requires c =
+    let s = c.new-search.result in
+    (sound-in s.table.now s.holds).most
+
+pub list-hits-requires : goal.list-hits-requires
+list-hits-requires c =
+    let a = c.args in
+    let s = c.new-search in
+    let e = c.in_ok-set.ensures.refusal ∙ ap (sound_refusal a.reference a.clauses.now _) (sym (pieces-word a.table.now c.requires.0)) in
+    (lists s.result _ _ _ s.ensures.table s.ensures.reference (ap (λ x. x.rows) s.ensures.set ∙ c.in_ok-set.ensures.rows) a.answer.now _ _ e c.new-marks.ensures c.run-opened.ensures.visited).room
 
 pub overflow_cast-result : goal.overflow_cast-result
 overflow_cast-result c =
-    let g = c in
-    let s = c.admitted-set.ensures in
-    let e = query-refusal _ g.requires.0 _ _ _ _ _ _ s c.refused-refusal.ensures c.to_index.ensures in
-    let k = query-lists _ g.requires.1 _ _ _ g.args.answer.now _ s (sym e ∙ c.if-refusal-ne-ACCEPTED.false) c.search-opened.ensures.1 in
-    omega (arith, k.small, c.list_marks-hits.ensures.0)
+    let a = c.args in
+    let s = c.new-search in
+    let e = c.in_ok-set.ensures.refusal ∙ ap (sound_refusal a.reference a.clauses.now _) (sym (pieces-word a.table.now c.requires.0)) in
+    let k = lists s.result _ _ _ s.ensures.table s.ensures.reference (ap (λ x. x.rows) s.ensures.set ∙ c.in_ok-set.ensures.rows) a.answer.now _ _ e c.new-marks.ensures c.run-opened.ensures.visited in
+    omega (arith, k.small, c.list-hits.ensures.count)
+
+pub overflow_cast-result-2 : goal.overflow_cast-result-2
+overflow_cast-result-2 c =
+    let s = c.new-search in
+    omega (arith, c.run-opened.ensures.count, few-opened s.result _ _ _ s.ensures.table s.ensures.reference (ap (λ x. x.rows) s.ensures.set ∙ c.in_ok-set.ensures.rows))
 
 pub returns : goal.returns
 returns c =
-    let g = c in
-    let s = c.admitted-set.ensures in
-    let e = query-refusal _ g.requires.0 _ _ _ _ _ _ s c.refused-refusal.ensures c.to_index.ensures in
-    let z = sym e ∙ c.if-refusal-ne-ACCEPTED.false in
-    let r = c.search-opened.ensures in
-    let k = query-lists _ g.requires.1 _ _ _ g.args.answer.now _ s z r.1 in
-    let m = c.list_marks-hits.ensures in
-    query-accepted _ _ _ _ _ _ _ _ (sym z) k.is m.0 (query-opened _ g.requires.1 _ _ _ _ _ s z r.0) k.room m.1
+    let a = c.args in
+    let s = c.new-search in
+    let e = c.in_ok-set.ensures.refusal ∙ ap (sound_refusal a.reference a.clauses.now _) (sym (pieces-word a.table.now c.requires.0)) in
+    let rows = ap (λ x. x.rows) s.ensures.set ∙ c.in_ok-set.ensures.rows in
+    let k = lists s.result _ _ _ s.ensures.table s.ensures.reference rows a.answer.now _ _ e c.new-marks.ensures c.run-opened.ensures.visited in
+    let m = c.list-hits.ensures in
+    let o = c.run-opened.ensures.count ∙ ap length (opened-is s.result _ _ _ s.ensures.table s.ensures.reference rows) in
+    query-accepted a.table.now _ _ _ _ _ _ _ e k.is m.count o k.room m.words

@@ -1,0 +1,168 @@
+-- What lies beyond the window fails the page test and the leaf test; for the admitted set of overlap all else passes both.
+use Prim.Native.Nat.{ℕ, ◌+◌, ◌-◌, ◌<◌, ◌≤◌}
+use native.Mathlib.Omega.{arith}
+use mathlib.Core.Path.{◌≡◌, refl, sym, ap, ap₂, ◌∙◌}
+use mathlib.Core.Logic.{◌⊎◌, inl, inr, ⊎_elim}
+use mathlib.Core.Bool.{Bool, true, false, ◌||◌, cond}
+use mathlib.Core.List.{List}
+use lib.Dec.{T, ltb}
+use borrow.Author.Tests.{ltb-true, ltb-false}
+use Rattle.relations.specs.Steps.{joined_of, near_by, inner_by, whole_by, overlap_by}
+use Rattle.relations.proofs.Tests.{and_left, and_right, or_left, or_right}
+use Rattle.relations.proofs.Sides.{is_code}
+use Rattle.relations.proofs.Near.{Shut, shut-y, shut-x, apart, outside, near-shut, inner-shut, leaf-less}
+use Rattle.relations.proofs.Whole.{Overlapping, overlapping, whole-leaf, whole-page}
+use Rattle.pages.specs.declared.Rect.{Rect}
+use Rattle.pages.specs.Sizes.{EDGE}
+use Rattle.pages.specs.Rectangles.{rect_of, valid}
+use Rattle.query.specs.Admission.{code_y, code_x}
+use Rattle.query.specs.Steps.{Small, admits_by, opens_by}
+use Rattle.query.specs.Window.{window_for, beyond, decided, Decides}
+use Rattle.query.proofs.Tests.{Proper, proper, small}
+
+either : (a b : Bool) → (a || b) ≡ true → (a ≡ true) ⊎ (b ≡ true)
+either true b e = inl refl
+either false b e = inr e
+
+-- on which axis p lies beyond w
+data Side (w p : Rect) : Type 0 where
+  on-y : (w.y2 < p.y1) ⊎ (p.y2 < w.y1) → Side w p
+  on-x : (w.x2 < p.x1) ⊎ (p.x2 < w.x1) → Side w p
+
+side : (w p : Rect) → beyond w p ≡ true → Side w p
+unfolding beyond
+side w p e = go (either (ltb w.y2 p.y1 || ltb w.x2 p.x1) _ e)
+  where
+    go : ((ltb w.y2 p.y1 || ltb w.x2 p.x1) ≡ true) ⊎ ((ltb p.y2 w.y1 || ltb p.x2 w.x1) ≡ true) → Side w p
+    go (inl h) = ⊎_elim (λ k. on-y (inl (ltb-true _ _ k))) (λ k. on-x (inl (ltb-true _ _ k))) (either (ltb w.y2 p.y1) _ h)
+    go (inr h) = ⊎_elim (λ k. on-y (inr (ltb-true _ _ k))) (λ k. on-x (inr (ltb-true _ _ k))) (either (ltb p.y2 w.y1) _ h)
+
+-- what lies beyond on no side
+record In (w p : Rect) : Type 0 where
+  y-low : p.y1 ≤ w.y2
+  y-high : w.y1 ≤ p.y2
+  x-low : p.x1 ≤ w.x2
+  x-high : w.x1 ≤ p.x2
+
+within : (w p : Rect) → beyond w p ≡ false → In w p
+unfolding beyond
+within w p e =
+    let f : (ltb w.y2 p.y1 || ltb w.x2 p.x1) ≡ false = or_left _ _ e in
+    let g : (ltb p.y2 w.y1 || ltb p.x2 w.x1) ≡ false = or_right (ltb w.y2 p.y1 || ltb w.x2 p.x1) _ e in
+    record {
+      y-low = ltb-false _ _ (or_left _ _ f);
+      y-high = ltb-false _ _ (or_left _ _ g);
+      x-low = ltb-false _ _ (or_right (ltb w.y2 p.y1) _ f);
+      x-high = ltb-false _ _ (or_right (ltb p.y2 w.y1) _ g);
+    }
+
+-- the window drawn in
+abbrev drawn : Rect → Rect
+drawn q = rect_of (q.x1 + 1) (q.y1 + 1) (q.x2 - 1) (q.y2 - 1)
+
+drawn-out : {p1 p2 q1 q2 : ℕ} → (q2 - 1 < p1) ⊎ (p2 < q1 + 1) → (q2 ≤ p1) ⊎ (p2 ≤ q1)
+drawn-out (inl h) = inl (omega arith)
+drawn-out (inr h) = inr (omega arith)
+
+window-small : (q : Rect) → T (valid q) → (near inner : Bool) → Small (window_for q near inner)
+unfolding window_for
+window-small q v near inner = go near inner (small q v) (proper q v)
+  where
+    go : (a b : Bool) → Small q → Proper q → Small (cond b (drawn q) (cond a q (rect_of 0 0 EDGE EDGE)))
+    go a true s o = record { x-start = omega (arith, s.x-end, o.on-x); y-start = omega (arith, s.y-end, o.on-y); x-end = omega (arith, s.x-end); y-end = omega (arith, s.y-end) }
+    go true false s o = s
+    go false false s o = record { x-start = omega arith; y-start = omega arith; x-end = omega arith; y-end = omega arith }
+
+pub made-small : (q w : Rect) → T (valid q) → (near inner : Bool) → w ≡ window_for q near inner → Small w
+made-small q w v near inner e = rw e (window-small q v near inner)
+
+module _ (rows : List ℕ) (q : Rect) (v : T (valid q)) where
+  o : Proper q
+  o = proper q v
+
+  module _ (p : Rect) where
+    shut-on-y : Shut rows (code_y q p) → opens_by (joined_of rows) q p ≡ false
+    unfolding opens_by
+    shut-on-y s = shut-y rows s (code_x q p)
+
+    shut-on-x : Shut rows (code_x q p) → opens_by (joined_of rows) q p ≡ false
+    unfolding opens_by
+    shut-on-x s = shut-x rows s (code_y q p) (is_code p.y1 p.y2 q.y1 q.y2)
+
+    past-drawn : inner_by (joined_of rows) ≡ true → Side (drawn q) p → opens_by (joined_of rows) q p ≡ false
+    past-drawn n (on-y h) = shut-on-y (inner-shut rows n (outside p.y1 p.y2 q.y1 q.y2 o.on-y (drawn-out h)))
+    past-drawn n (on-x h) = shut-on-x (inner-shut rows n (outside p.x1 p.x2 q.x1 q.x2 o.on-x (drawn-out h)))
+
+    past-reference : near_by (joined_of rows) ≡ true → Side q p → opens_by (joined_of rows) q p ≡ false
+    past-reference n (on-y h) = shut-on-y (near-shut rows n (apart p.y1 p.y2 q.y1 q.y2 o.on-y h))
+    past-reference n (on-x h) = shut-on-x (near-shut rows n (apart p.x1 p.x2 q.x1 q.x2 o.on-x h))
+
+    past_all : Small p → Side (rect_of 0 0 EDGE EDGE) p → opens_by (joined_of rows) q p ≡ false
+    past_all s (on-y (inl h)) = absurd (omega (arith, s.y-start))
+    past_all s (on-y (inr h)) = absurd (omega arith)
+    past_all s (on-x (inl h)) = absurd (omega (arith, s.x-start))
+    past_all s (on-x (inr h)) = absurd (omega arith)
+
+    past : Small p → (near inner : Bool) → near_by (joined_of rows) ≡ near → inner_by (joined_of rows) ≡ inner → Side (window_for q near inner) p → opens_by (joined_of rows) q p ≡ false
+    unfolding window_for
+    past m near true n i s = past-drawn i s
+    past m true false n i s = past-reference n s
+    past m false false n i s = past_all m s
+
+  abbrev window : Rect
+  window = window_for q (near_by (joined_of rows)) (inner_by (joined_of rows))
+
+  shut_out : (p : Rect) → Small p → beyond window p ≡ true → opens_by (joined_of rows) q p ≡ false
+  shut_out p m e = past p m _ _ refl refl (side window p e)
+
+  module _ (w : overlap_by rows (joined_of rows) ≡ true) (p : Rect) (e : beyond window p ≡ false) where
+    m : In (drawn q) p
+    unfolding window_for overlap_by
+    m = within (drawn q) p (sym (ap (λ (i : Bool). beyond (cond i (drawn q) (cond (near_by (joined_of rows)) q (rect_of 0 0 EDGE EDGE))) p) (and_left (inner_by (joined_of rows)) (whole_by rows) w)) ∙ e)
+
+    i : Overlapping (code_y q p)
+    i = overlapping p.y1 p.y2 q.y1 q.y2 (omega (arith, m.y-low, o.on-y)) (omega (arith, m.y-high))
+
+    j : Overlapping (code_x q p)
+    j = overlapping p.x1 p.x2 q.x1 q.x2 (omega (arith, m.x-low, o.on-x)) (omega (arith, m.x-high))
+
+    taken-page : opens_by (joined_of rows) q p ≡ true
+    unfolding opens_by overlap_by
+    taken-page = whole-page rows (and_right (inner_by (joined_of rows)) _ w) (code_y q p) (code_x q p) i j
+
+    taken-leaf : admits_by rows q p ≡ true
+    unfolding admits_by overlap_by
+    taken-leaf = whole-leaf rows (and_right (inner_by (joined_of rows)) _ w) (code_y q p) (code_x q p) i j
+
+  leaf-shut : (p : Rect) → Small p → beyond window p ≡ true → admits_by rows q p ≡ false
+  unfolding admits_by opens_by
+  leaf-shut p m e =
+      leaf-less rows (code_y q p) (code_x q p) (is_code p.y1 p.y2 q.y1 q.y2) (is_code p.x1 p.x2 q.x1 q.x2) (shut_out p m e)
+
+  abbrev whole : Bool
+  whole = overlap_by rows (joined_of rows)
+
+  decides : (test : Rect → Bool) → ((p : Rect) → Small p → beyond window p ≡ true → test p ≡ false)
+      → (whole ≡ true → (p : Rect) → beyond window p ≡ false → test p ≡ true) → Decides window whole test
+  unfolding decided
+  decides test fails passes p s = go (beyond window p) refl whole refl
+    where
+      go : (b : Bool) → beyond window p ≡ b → (h : Bool) → whole ≡ h → cond b false (cond h true (test p)) ≡ test p
+      go true e h z = sym (fails p s e)
+      go false e true z = sym (passes z p e)
+      go false e false z = refl
+
+  -- the window that a search makes
+  module _ (below : List ℕ) (near inner all : Bool) (w : Rect) (j : below ≡ joined_of rows) (n : near ≡ near_by below) (i : inner ≡ inner_by below) (o : all ≡ overlap_by rows below)
+      (e : w ≡ window_for q near inner) where
+    window-is : w ≡ window
+    window-is = e ∙ ap₂ (window_for q) (n ∙ ap near_by j) (i ∙ ap inner_by j)
+
+    whole-is : all ≡ whole
+    whole-is = o ∙ ap (overlap_by rows) j
+
+    pub pages-decided : Decides w all (opens_by below q)
+    pages-decided = rw (window-is, whole-is, j) (decides (opens_by (joined_of rows) q) shut_out taken-page)
+
+    pub leaves-decided : Decides w all (admits_by rows q)
+    leaves-decided = rw (window-is, whole-is) (decides (admits_by rows q) leaf-shut taken-leaf)

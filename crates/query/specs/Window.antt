@@ -1,0 +1,55 @@
+-- The window of a search, beyond which nothing passes a test, and paired words, by which it is tested.
+use Rattle.std.specs.Prelude.{ℕ, ◌+◌, ◌-◌, ◌*◌, ◌/◌, ◌%◌, ◌≤◌, Bool, true, false, cond, ◌||◌, ◌≡◌, leb, ltb}
+use Rattle.pages.specs.declared.Rect.{Rect}
+use Rattle.pages.specs.Sizes.{EDGE}
+use Rattle.pages.specs.Rectangles.{rect_of}
+use Rattle.query.specs.Steps.{Small}
+
+-- a paired word has an x in its lower half and a y in its upper half
+abbrev pub HALF : ℕ
+HALF = 4_294_967_296
+
+abbrev pub paired_of : ℕ → ℕ → ℕ
+paired_of x y = y * HALF + x
+
+-- the highest bit of a half
+abbrev pub TOP : ℕ
+TOP = 2_147_483_648
+
+-- it is set in one of the halves
+unfoldable pub over : ℕ → Bool
+over a = leb (TOP * HALF) a || leb TOP (a % HALF)
+
+-- the most that leaves the highest bit of a half alone
+abbrev pub MOST : ℕ
+MOST = 2_147_483_647
+
+-- a window is kept by what a start may grow by and what an end is taken from, before a highest bit is set
+unfoldable pub window_in : ℕ → ℕ → Rect
+window_in starts ends = rect_of (ends % HALF - MOST) (ends / HALF - MOST) (MOST - starts % HALF) (MOST - starts / HALF)
+
+-- its words leave room in each half
+pub record Roomy (starts ends : ℕ) : Type 0 where
+  pub x-start : starts % HALF ≤ MOST
+  pub y-start : starts / HALF ≤ MOST
+  pub x-end : MOST ≤ ends % HALF
+  pub y-end : MOST ≤ ends / HALF
+  pub x-most : ends % HALF ≤ MOST + EDGE
+  pub y-most : ends / HALF ≤ MOST + EDGE
+
+-- drawn in by one unit where nothing is admitted that does not overlap the reference, the reference itself where nothing
+-- beyond it is, else all that pieces can cover
+unfoldable pub window_for : Rect → Bool → Bool → Rect
+window_for q near inner = cond inner (rect_of (q.x1 + 1) (q.y1 + 1) (q.x2 - 1) (q.y2 - 1)) (cond near q (rect_of 0 0 EDGE EDGE))
+
+-- p lies beyond q on one of its sides: it starts past an end of q, or ends before a start of it
+unfoldable pub beyond : Rect → Rect → Bool
+beyond q p = (ltb q.y2 p.y1 || ltb q.x2 p.x1) || (ltb p.y2 q.y1 || ltb p.x2 q.x1)
+
+-- a test that fails what lies beyond the window, and that all else passes where `whole` holds
+unfoldable pub decided : Rect → Bool → (Rect → Bool) → Rect → Bool
+decided window whole test p = cond (beyond window p) false (cond whole true (test p))
+
+-- the window and `whole` decide as the test does
+abbrev pub Decides : Rect → Bool → (Rect → Bool) → Type 0
+Decides window whole test = (p : Rect) → Small p → decided window whole test p ≡ test p

@@ -1,0 +1,124 @@
+// A search of a sound table: what it asks of rectangles, and how it reads pages.
+ghost use Rattle.std.specs.Prelude.{◌≡◌, ◌≤◌, ◌<◌, length, get_or, T};
+ghost use Rattle.relations.specs.Steps.{joined_of};
+ghost use Rattle.pages.specs.Sizes.{TABLE_WORDS};
+ghost use Rattle.pages.specs.Rectangles.{valid};
+ghost use Rattle.pages.specs.Layout.{no_entry, page};
+ghost use Rattle.pages.specs.Sound.{sound};
+ghost use Rattle.query.specs.Admission.{code_y, code_x};
+ghost use Rattle.query.specs.Steps.{Small, admits_by, opens_by};
+ghost use Rattle.query.specs.Window.{Decides};
+
+use crate::marking::Marks;
+use crate::window::{Window, window_for};
+use pages::{Entry, Rect};
+use relations::{Code, PageTest, RowSets};
+
+/// What lies beyond the window passes no test; where `whole` holds, all else passes each.
+#[derive(Drop)]
+pub struct Search<'a> {
+    table: &'a [u32],
+    reference: Rect,
+    set: RowSets,
+    test: PageTest,
+    pub window: Window,
+    pub whole: bool,
+    ghost words: { TABLE_WORDS ≤ length table.now },
+    ghost holds: { T (sound table.now) },
+    ghost proper: { T (valid reference) },
+    ghost joined: { test.below ≡ joined_of set.rows },
+    ghost leaves: { Decides window whole (admits_by set.rows reference) },
+    ghost pages: { Decides window whole (opens_by test.below reference) },
+}
+
+impl Search<'_> {
+    ghost use Rattle.query.specs.Search.{admits_in, opens_in, table_of};
+
+    pub fn new(table: &[u32], reference: Rect, set: RowSets) -> Search<'_>
+        requires words { TABLE_WORDS ≤ length table.now }
+        requires holds { T (sound table.now) }
+        requires proper { T (valid reference) }
+        ensures table { result.table.now ≡ table.now }
+        ensures reference { result.reference ≡ reference }
+        ensures set { result.set ≡ set }
+    {
+        let test = PageTest::new(&set);
+        let window = window_for(reference, test.is_near(), test.is_inner());
+        let whole = test.is_overlap(&set);
+        Search {
+            table,
+            reference,
+            set,
+            test,
+            window: Window::new(window),
+            whole,
+        }
+    }
+
+    /// The page number of the root, and its level.
+    pub fn root(&self) -> usize
+        ensures { result ≡ (table_of self.now).root }
+    {
+        self.table[pages::ROOT] as usize
+    }
+
+    pub fn level(&self, p: usize) -> usize
+        requires { p < length (table_of self.now).pages }
+        ensures { result ≡ (page (table_of self.now) p).level }
+    {
+        pages::page_of(self.table, p)[pages::LEVEL] as usize
+    }
+
+    /// The entry count of a page.
+    pub fn size(&self, p: usize) -> usize
+        requires { p < length (table_of self.now).pages }
+        ensures { result ≡ length (page (table_of self.now) p).entries }
+    {
+        pages::page_of(self.table, p)[pages::COUNT] as usize
+    }
+
+    /// The entry at place i of a page; none of its edges exceeds 1,000,000.
+    pub fn entry(&self, p: usize, i: usize) -> Entry
+        requires page { p < length (table_of self.now).pages }
+        requires place { i < length (page (table_of self.now) p).entries }
+        ensures entry { result ≡ get_or (page (table_of self.now) p).entries i no_entry }
+        ensures small { Small result.rect }
+    {
+        pages::entry_of(pages::page_of(self.table, p), i)
+    }
+
+    // The codes of a rectangle on y and on x.
+    fn codes(&self, rect: Rect) -> (Code, Code)
+        ensures y { result.0.number ≡ code_y self.now.reference rect }
+        ensures x { result.1.number ≡ code_x self.now.reference rect }
+    {
+        let q = self.reference;
+        (
+            relations::axis_code(rect.y1, rect.y2, q.y1, q.y2),
+            relations::axis_code(rect.x1, rect.x2, q.x1, q.x2),
+        )
+    }
+
+    /// Whether a piece's rectangle is admitted.
+    pub fn admits(&self, rect: Rect) -> bool
+        ensures { result ≡ admits_in self.now rect }
+    {
+        let (cy, cx) = self.codes(rect);
+        self.set.has(cy, cx)
+    }
+
+    /// Whether a page's rectangle may hold an admitted one.
+    pub fn opens(&self, rect: Rect) -> bool
+        requires { Small rect }
+        ensures { result ≡ opens_in self.now rect }
+    {
+        if self.window.is_beyond(rect) {
+            return false;
+        }
+        if self.whole {
+            return true;
+        }
+        let (cy, cx) = self.codes(rect);
+        self.test.may_hold(cy, cx)
+    }
+}
