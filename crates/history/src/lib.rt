@@ -27,7 +27,7 @@ fn place_marked(
     ensures answer { (refusal_of result, table.new) ≡ place_sound table.old number rect }
     ensures marked { Marked table.new marks.new }
 {
-    if !pages::is_valid(rect) {
+    if !rect.is_valid() {
         return Err(Refusal::RectangleNotValid);
     }
     if number >= PIECES {
@@ -53,7 +53,7 @@ pub fn replay(table: &mut [u32], calls: &[u32], refusals: &mut [u32]) -> Result<
     if refusals.len() < groups.len() {
         return Err(Refusal::AnswerTooShort);
     }
-    pages::empty(table);
+    pages::empty(table)?;
     let mut marks = [false; NUMBERS];
     for (i, &[number, x1, y1, x2, y2]) in groups.iter().enumerate() {
         let rect = Rect { x1, y1, x2, y2 };

@@ -146,7 +146,7 @@ fn stop(
 fn place_all(calls: &[u32], table: &mut [u32], returned: &mut [u32]) {
     let (calls, _) = calls.as_chunks::<CALL_WORDS>();
     for (&[number, x1, y1, x2, y2], refusal) in calls.iter().zip(returned.iter_mut()) {
-        *refusal = placing::place(table, number, Rect { x1, y1, x2, y2 });
+        *refusal = refusal_of(&placing::place(table, number, Rect { x1, y1, x2, y2 }));
     }
 }
 
@@ -178,7 +178,7 @@ pub fn print_run(rt: &impl Print, run: Run, answer: &mut [u16]) -> io::Result<()
     for stop_at in STOPS {
         stop(rt, calls, stop_at, &mut table, returned)?;
     }
-    pages::empty(&mut table);
+    let _ = pages::empty(&mut table);
     place_all(calls, &mut table, returned);
     print_refusals(rt, returned)?;
     print!(rt; "end")?;
