@@ -1,13 +1,38 @@
 -- One query more; and a table that check refuses, where none is answered.
-use Rattle.std.proofs.Common.{◌≡◌, ℕ, zero, suc, ◌+◌, ◌*◌, ◌/◌, ◌%◌, ◌^◌, ◌≤◌, T, ◌≢◌, List, length, sym, refl, ap, ◌∙◌, ap₂, add-one}
+use Rattle.std.proofs.Common.{◌≡◌, ℕ, zero, suc, ◌+◌, ◌*◌, ◌/◌, ◌%◌, ◌^◌, ◌≤◌, ◌<◌, T, ◌≢◌, List, [], length, get_or, take, drop, drop-drop, mul-zero, arith, sym, refl, ap, ◌∙◌, ap₂, add-one}
+use Rattle.std.specs.Simd.{first_chunks}
+use Rattle.pages.specs.declared.Rect.{Rect}
 use Rattle.pages.specs.Sizes.{TABLE_WORDS}
+use Rattle.pages.specs.Rectangles.{rect_of}
 use Rattle.pages.specs.Sound.{sound}
+use Rattle.pages.proofs.Cells.{cell-word}
 use Rattle.soundness.specs.declared.Checked.{Checked}
 use Rattle.soundness.specs.Calls.{check_call}
 use Rattle.query.specs.declared.Answer.{Answer}
 use Rattle.query.specs.Calls.{query_sound, query_call}
 use Rattle.query.proofs.Whole.{query-unchecked, query-whole}
 use Rattle.finder_bench.specs.Asked.{RECT_WORDS, reference_at, asked, asked_all}
+
+-- four words in a row are a reference
+chunk-at : (w n : ℕ) (ws : List ℕ) (i : ℕ) → i < n → get_or (first_chunks w n ws) i [] ≡ take w (drop (w * i) ws)
+chunk-at w zero ws i l = absurd (omega arith)
+chunk-at w (suc n) ws zero l = rw mul-zero
+chunk-at w (suc n) ws (suc i) l =
+    let e : w + w * i ≡ w * suc i = omega arith in
+    chunk-at w n (drop w ws) i (omega arith) ∙ rw (drop-drop, e)
+
+abbrev pub rect_in : List ℕ → Rect
+rect_in c = rect_of (get_or c 0 0) (get_or c 1 0) (get_or c 2 0) (get_or c 3 0)
+
+pub reference-is : (ws : List ℕ) (n i : ℕ) → i < n → rect_in (get_or (first_chunks RECT_WORDS n ws) i []) ≡ reference_at ws (RECT_WORDS * i)
+reference-is ws n i l =
+    let at : ℕ = RECT_WORDS * i in
+    let z : at + 0 ≡ at = omega arith in
+    let e0 = cell-word ws at RECT_WORDS 0 (omega arith) ∙ ap (λ k. get_or ws k 0) z in
+    let e1 = cell-word ws at RECT_WORDS 1 (omega arith) in
+    let e2 = cell-word ws at RECT_WORDS 2 (omega arith) in
+    let e3 = cell-word ws at RECT_WORDS 3 (omega arith) in
+    ap rect_in (chunk-at RECT_WORDS n ws i l) ∙ (λ k. rect_of (e0 k) (e1 k) (e2 k) (e3 k))
 
 -- what a query adds
 abbrev after : ℕ × List ℕ → Answer × List ℕ → ℕ × List ℕ
@@ -44,11 +69,11 @@ module _ (w references clauses answer : List ℕ) where
   pub all-refused : (k : Checked) → k ≡ check_call w → k.refusal ≢ 0 → ◌≡◌ {A = ℕ × List ℕ} (0, answer) (asked_all w references clauses answer)
   all-refused k e z = none-asked k e z (length references / RECT_WORDS) ∙ all-is
 
-  pub one_more : TABLE_WORDS ≤ length w → T (sound w) → (n hits h : ℕ) (left words : List ℕ) (r : Answer) → ◌≡◌ {A = ℕ × List ℕ} (hits, left) (so_far n)
-      → ◌≡◌ {A = Answer × List ℕ} (r, words) (query_sound w (reference_at references (RECT_WORDS * n)) clauses left) → h ≡ (hits + r.hits) % 2 ^ 64
+  pub one_more : TABLE_WORDS ≤ length w → T (sound w) → (n hits h : ℕ) (left words : List ℕ) (r : Answer) (q : Rect) → ◌≡◌ {A = ℕ × List ℕ} (hits, left) (so_far n)
+      → q ≡ reference_at references (RECT_WORDS * n) → ◌≡◌ {A = Answer × List ℕ} (r, words) (query_sound w q clauses left) → h ≡ (hits + r.hits) % 2 ^ 64
       → ◌≡◌ {A = ℕ × List ℕ} (h, words) (so_far (n + 1))
-  one_more long holds n hits h left words r e q p =
+  one_more long holds n hits h left words r q e at s p =
       ap (λ (x : ℕ). (x, words)) p
-      ∙ ap₂ after e (q ∙ sym (query-whole w long holds (reference_at references (RECT_WORDS * n)) clauses left) ∙ ap (λ s. answered n s.1) e)
+      ∙ ap₂ after e (s ∙ (ap (λ x. query_sound w x clauses left) at ∙ sym (query-whole w long holds (reference_at references (RECT_WORDS * n)) clauses left)) ∙ ap (λ s. answered n s.1) e)
       ∙ sym (asked-more n)
       ∙ ap so_far (sym (add-one n))

@@ -6,6 +6,7 @@ ghost use Rattle.history.specs.Replay.{replay_call};
 ghost use Rattle.finder_bench.specs.Asked.{asked_all};
 
 use pages::Rect;
+use refusals::refusal_of;
 
 const RECT_WORDS: usize = 4;
 
@@ -19,21 +20,15 @@ pub extern "C" fn bench_queries(
 ) -> u64
     ensures { (result, answer.new) ≡ asked_all table.now references.now clauses.now answer.old }
 {
-    let checked = soundness::check(table);
-    if checked.refusal != pages::ACCEPTED {
+    if soundness::check(table).is_err() {
         return 0;
     }
+    let (rects, _) = references.as_chunks::<RECT_WORDS>();
     let mut hits: u64 = 0;
-    for i in 0..references.len() / RECT_WORDS {
-        let at = RECT_WORDS * i;
-        let reference = Rect {
-            x1: references[at],
-            y1: references[at + 1],
-            x2: references[at + 2],
-            y2: references[at + 3],
-        };
-        let found = query::query_sound(table, reference, clauses, answer);
-        hits = std::num::wrapping_add_u64(hits, found.hits as u64);
+    for words in rects {
+        if let Ok(found) = query::query_sound(table, Rect::from(*words), clauses, answer) {
+            hits = hits.wrapping_add(u64::from(found.hits));
+        }
     }
     hits
 }
@@ -42,5 +37,5 @@ pub extern "C" fn bench_queries(
 pub extern "C" fn bench_replay(table: &mut [u32], calls: &[u32], refusals: &mut [u32]) -> u32
     ensures { (result, table.new, refusals.new) ≡ replay_call table.old calls.now refusals.old }
 {
-    history::replay(table, calls, refusals)
+    refusal_of(&history::replay(table, calls, refusals))
 }

@@ -15,6 +15,7 @@ ghost use Rattle.query.specs.Calls.{query_call, OpenedWords};
 use outline::{Area, Located};
 use pages::Rect;
 use query::{Answer, Opened};
+use refusals::refusal_of;
 use relations::AdmittedSet;
 use soundness::Checked;
 use tiles::Shares;
@@ -23,14 +24,14 @@ use tiles::Shares;
 pub extern "C" fn finder_empty(table: &mut [u32]) -> u32
     ensures { (result, table.new) ≡ empty_call table.old }
 {
-    pages::empty(table)
+    refusal_of(&pages::empty(table))
 }
 
 #[unsafe(no_mangle)]
 pub extern "C" fn finder_check(table: &[u32]) -> Checked
     ensures { result ≡ check_call table.now }
 {
-    soundness::check(table)
+    Checked::from(soundness::check(table))
 }
 
 #[unsafe(no_mangle)]
@@ -44,7 +45,7 @@ pub extern "C" fn finder_place(
 ) -> u32
     ensures { (result, table.new) ≡ place_call table.old number (rect_of x1 y1 x2 y2) }
 {
-    placing::place(table, number, Rect { x1, y1, x2, y2 })
+    refusal_of(&placing::place(table, number, Rect { x1, y1, x2, y2 }))
 }
 
 #[unsafe(no_mangle)]
@@ -59,7 +60,7 @@ pub extern "C" fn finder_query(
 ) -> Answer
     ensures { (result, answer.new) ≡ query_call table.now (rect_of x1 y1 x2 y2) clauses.now answer.old }
 {
-    query::query(table, Rect { x1, y1, x2, y2 }, clauses, answer)
+    Answer::from(query::query(table, Rect { x1, y1, x2, y2 }, clauses, answer))
 }
 
 #[unsafe(no_mangle)]
@@ -74,28 +75,28 @@ pub extern "C" fn finder_opened_pages(
 ) -> Opened
     ensures { OpenedWords table.now (rect_of x1 y1 x2 y2) clauses.now answer.old answer.new result }
 {
-    query::opened_pages(table, Rect { x1, y1, x2, y2 }, clauses, answer)
+    Opened::from(query::opened_pages(table, Rect { x1, y1, x2, y2 }, clauses, answer))
 }
 
 #[unsafe(no_mangle)]
 pub extern "C" fn finder_admitted_set(clauses: &[u64]) -> AdmittedSet
     ensures { result ≡ admitted_of clauses.now }
 {
-    relations::admitted(clauses)
+    AdmittedSet::from(relations::admitted(clauses))
 }
 
 #[unsafe(no_mangle)]
 pub extern "C" fn finder_outline_area(words: &[u32]) -> Area
     ensures { result ≡ area_call words.now }
 {
-    outline::outline_area(words)
+    Area::from(outline::outline_area(words))
 }
 
 #[unsafe(no_mangle)]
 pub extern "C" fn finder_outline_point(words: &[u32], x: u32, y: u32) -> Located
     ensures { result ≡ point_call words.now x y }
 {
-    outline::outline_point(words, x, y)
+    Located::from(outline::outline_point(words, x, y))
 }
 
 // p is the piece, q the reference.
@@ -112,20 +113,9 @@ pub extern "C" fn finder_tile_shares(
 ) -> Shares
     ensures { result ≡ shares_call (rect_of px1 py1 px2 py2) (rect_of qx1 qy1 qx2 qy2) }
 {
-    tiles::tile_shares(
-        Rect {
-            x1: px1,
-            y1: py1,
-            x2: px2,
-            y2: py2,
-        },
-        Rect {
-            x1: qx1,
-            y1: qy1,
-            x2: qx2,
-            y2: qy2,
-        },
-    )
+    let piece = Rect::from([px1, py1, px2, py2]);
+    let reference = Rect::from([qx1, qy1, qx2, qy2]);
+    Shares::from(tiles::tile_shares(piece, reference))
 }
 
 #[unsafe(no_mangle)]

@@ -3,6 +3,8 @@ use Prim.Native.Nat.{ℕ, ◌+◌, ◌<◌}
 use native.Mathlib.Omega.{arith}
 use native.Mathlib.Decide.{ℕ_discrete}
 use mathlib.Core.Path.{◌≡◌, sym, ap, ◌∙◌}
+use mathlib.Core.Bool.{Bool, true, false}
+use mathlib.Core.Logic.{◌≢◌}
 use mathlib.Core.List.{List}
 use lib.ListN.{length, get_or, drop, set, replicate, get_or-replicate}
 use lib.Seq.{get_or-set_same, get_or-set_other}
@@ -24,8 +26,18 @@ use Rattle.history.specs.Book.{blank}
 use Rattle.history.specs.Replay.{Marked}
 use Rattle.history.proofs.Reached.{Reached, stored-none}
 
-pub marked-none : (w : List ℕ) → Reached w (λ n. blank) → Marked w (replicate PIECES 0)
-marked-none w R c l = get_or-replicate PIECES c 0 0 l ∙ sym (stored-none w R c l)
+pub marked-none : (w : List ℕ) → Reached w (λ n. blank) → Marked w (replicate PIECES false)
+marked-none w R c l = ap one (get_or-replicate PIECES c false false l) ∙ sym (stored-none w R c l)
+
+-- what a mark says
+module _ (w : List ℕ) (marks : List Bool) (m : Marked w marks) (n : ℕ) (l : n < PIECES) where
+  pub marked-stands : get_or marks n false ≡ true → stored (table_in w) n ≢ 0
+  marked-stands e z =
+      let k : 1 ≡ stored (table_in w) n = ap one (sym e) ∙ m n l in
+      absurd (omega (arith, k, z))
+
+  pub marked-free : get_or marks n false ≡ false → stored (table_in w) n ≡ 0
+  marked-free e = sym (m n l) ∙ ap one e
 
 -- the number n, which did not stand, is placed and marked
 module _ (w : List ℕ) (n : ℕ) (r : Rect) (h : T (sound w)) (v : T (valid r)) (l : n < PIECES) (free : stored (table_in w) n ≡ 0) where
@@ -36,16 +48,16 @@ module _ (w : List ℕ) (n : ℕ) (r : Rect) (h : T (sound w)) (v : T (valid r))
       ap (λ x. stored x c) (ap table_in (words_open w n r) ∙ encode-in (place t n r) (drop TABLE_WORDS w) (place-sound t n r F v l free))
       ∙ place-holds t n r F v l free (is c)
 
-  pub marked-placed : (u marks : List ℕ) → u ≡ placed_words w n r → n < length marks → Marked w marks → Marked u (set marks n 1)
+  pub marked-placed : (u : List ℕ) (marks : List Bool) → u ≡ placed_words w n r → n < length marks → Marked w marks → Marked u (set marks n true)
   marked-placed u marks p k m c cl = go (ℕ_discrete c n) ∙ ap (λ x. stored (table_in x) c) (sym p)
     where
-      go : Dec (c ≡ n) → get_or (set marks n 1) c 0 ≡ stored (table_in (placed_words w n r)) c
+      go : Dec (c ≡ n) → one (get_or (set marks n true) c false) ≡ stored (table_in (placed_words w n r)) c
       go (yes e) =
-          let a : get_or (set marks n 1) c 0 ≡ 1 = rw e (get_or-set_same marks n 1 0 k) in
+          let a : get_or (set marks n true) c false ≡ true = rw e (get_or-set_same marks n true false k) in
           let b : one (eqb n c) ≡ 1 = rw (eq-eqb n c (sym e)) in
           let z : stored (table_in w) c ≡ 0 = rw e free in
-          omega (arith, stored-placed c)
+          ap one a ∙ omega (arith, stored-placed c)
       go (no e) =
-          let a : get_or (set marks n 1) c 0 ≡ get_or marks c 0 = get_or-set_other marks n c 1 0 e in
+          let a : get_or (set marks n true) c false ≡ get_or marks c false = get_or-set_other marks n c true false e in
           let b : one (eqb n c) ≡ 0 = rw (ne_eqb n c (λ x. e (sym x))) in
-          omega (arith, stored-placed c, m c cl)
+          ap one a ∙ omega (arith, stored-placed c, m c cl)

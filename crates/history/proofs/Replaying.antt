@@ -1,21 +1,20 @@
 -- Place calls one after the other: one call more, and the refusals written so far.
-use Prim.Native.Nat.{ℕ, suc, ◌+◌, ◌*◌, ◌/◌, ◌≤◌, ◌<◌}
+use Prim.Native.Nat.{ℕ, zero, suc, ◌/◌, ◌≤◌, ◌<◌}
 use native.Mathlib.Omega.{arith}
 use native.Mathlib.Numerals.{add-one}
 use mathlib.Core.Path.{◌≡◌, refl, sym, ap, ◌∙◌, subst}
 use mathlib.Core.Bool.{cond}
-use mathlib.Core.List.{List, [], ◌∷◌, ◌++◌, append_assoc}
-use lib.ListN.{length, get_or, take, drop, set}
+use mathlib.Core.List.{List, [], ◌∷◌, ◌++◌, map, append_assoc}
+use lib.ListN.{length, get_or, take, drop, set, length-append}
 use lib.Dec.{ltb}
-use lib.Seq.{take-length, length-take-le, take-suc, drop-cons, set_at}
+use lib.Seq.{drop-cons, set_at}
 use borrow.Author.Tests.{lt-ltb, le-ltb}
-use Rattle.pages.specs.declared.Rect.{Rect}
+use Rattle.std.specs.Simd.{first_chunks}
 use Rattle.pages.specs.Sizes.{TABLE_WORDS}
 use Rattle.pages.specs.Refusals.{ACCEPTED, TABLE_TOO_SHORT, ANSWER_TOO_SHORT}
-use Rattle.pages.specs.Rectangles.{rect_of}
+use Rattle.pages.specs.Layout.{unpack}
 use Rattle.pages.specs.Calls.{empty_call}
-use Rattle.pages.proofs.Round.{length-unpack, get_or-unpack}
-use Rattle.pages.proofs.Cells.{cell-word}
+use Rattle.pages.proofs.Round.{length-unpack}
 use Rattle.placing.specs.Calls.{place_sound, place_call}
 use Rattle.history.specs.Book.{Call, blank, fed}
 use Rattle.history.specs.History.{placed, table_after}
@@ -39,83 +38,53 @@ unfolding refusals_from
 length-refusals [] w = refl
 length-refusals (c ∷ cs) w = ap suc (length-refusals cs (place_call w c.number c.rect).1)
 
--- the calls in the words
+-- the calls in the words are those of the groups of five
+unpack-chunks : {A : Type 0} (g : List ℕ → A) (w n : ℕ) (words : List ℕ) → unpack g w n words ≡ map g (first_chunks w n words)
+unpack-chunks g w zero words = refl
+unpack-chunks g w (suc n) words = ap (λ xs. g (take w words) ∷ xs) (unpack-chunks g w n (drop w words))
+
+pub calls-grouped : (words : List ℕ) → calls_of words ≡ map call_in (first_chunks CALL_WORDS (length words / CALL_WORDS) words)
+unfolding calls_of
+calls-grouped words = unpack-chunks call_in CALL_WORDS (length words / CALL_WORDS) words
+
 pub length-calls : (words : List ℕ) → length (calls_of words) ≡ length words / CALL_WORDS
 unfolding calls_of
 length-calls words = length-unpack call_in CALL_WORDS (length words / CALL_WORDS) words
 
--- the call whose words start at a place
-abbrev pub call_at : List ℕ → ℕ → Call
-call_at words at = record {
-  number = get_or words at 0;
-  rect = rect_of (get_or words (at + 1) 0) (get_or words (at + 2) 0) (get_or words (at + 3) 0) (get_or words (at + 4) 0);
-}
-
-call-at : (words : List ℕ) (at : ℕ) → call_in (take CALL_WORDS (drop at words)) ≡ call_at words at
-unfolding call_in
-call-at words at =
-    let z : at + 0 ≡ at = omega arith in
-    let n : get_or (take CALL_WORDS (drop at words)) 0 0 ≡ get_or words at 0 = cell-word words at CALL_WORDS 0 (omega arith) ∙ ap (λ k. get_or words k 0) z in
-    let a = cell-word words at CALL_WORDS 1 (omega arith) in
-    let b = cell-word words at CALL_WORDS 2 (omega arith) in
-    let c = cell-word words at CALL_WORDS 3 (omega arith) in
-    let d = cell-word words at CALL_WORDS 4 (omega arith) in
-    λ i. record { number = n i; rect = record { x1 = a i; y1 = b i; x2 = c i; y2 = d i } }
-
-call-in : (words : List ℕ) (i : ℕ) → i < length words / CALL_WORDS → get_or (calls_of words) i (call_at words 0) ≡ call_at words (CALL_WORDS * i)
-unfolding calls_of
-call-in words i l = get_or-unpack call_in CALL_WORDS (length words / CALL_WORDS) words (call_at words 0) i l ∙ call-at words (CALL_WORDS * i)
-
-calls-more : (words : List ℕ) (i : ℕ) → i < length words / CALL_WORDS
-    → take (suc i) (calls_of words) ≡ take i (calls_of words) ++ (call_at words (CALL_WORDS * i) ∷ [])
-calls-more words i l =
-    take-suc (calls_of words) i (call_at words 0) (omega (arith, length-calls words))
-    ∙ ap (λ c. take i (calls_of words) ++ (c ∷ [])) (call-in words i l)
-
--- what holds after i calls, from the table that `empty` left and the refusal words as they were
-pub record Progress (first words before : List ℕ) (i : ℕ) (table answer : List ℕ) : Type 0 where
+-- what holds after some calls, from the table that `empty` left and the refusal words as they were
+pub record Progress (first before : List ℕ) (done : List Call) (table answer : List ℕ) : Type 0 where
   pub start : Reached first (λ n. blank)
-  pub table_is : table ≡ placed first (take i (calls_of words))
-  pub answer-is : answer ≡ refusals_from first (take i (calls_of words)) ++ drop i before
+  pub table_is : table ≡ placed first done
+  pub answer-is : answer ≡ refusals_from first done ++ drop (length done) before
 
-pub progress-none : (first words before : List ℕ) → Reached first (λ n. blank) → Progress first words before 0 first before
+pub progress-none : (first before : List ℕ) → Reached first (λ n. blank) → Progress first before [] first before
 unfolding placed refusals_from
-progress-none first words before R = record { start = R; table_is = refl; answer-is = refl }
+progress-none first before R = record { start = R; table_is = refl; answer-is = refl }
 
-module _ {first words before : List ℕ} {i : ℕ} {table answer : List ℕ} (P : Progress first words before i table answer) where
-  abbrev done : List Call
-  done = take i (calls_of words)
-
-  abbrev next : Call
-  next = call_at words (CALL_WORDS * i)
-
+module _ {first before : List ℕ} {done : List Call} {table answer : List ℕ} (P : Progress first before done table answer) where
   pub progress-reached : Reached table (fed (λ n. blank) done)
   progress-reached = subst (λ x. Reached x (fed (λ n. blank) done)) (sym P.table_is) (reached-calls done first (λ n. blank) P.start)
 
-  -- one step of the loop
-  module _ (u : List ℕ) (r : ℕ) (q : Rect) (l : i < length words / CALL_WORDS) (k : length words / CALL_WORDS ≤ length before)
-      (eq : q ≡ next.rect) (s : (r, u) ≡ place_sound table next.number q) where
-    called : (r, u) ≡ place_call (placed first done) next.number next.rect
-    called =
-        s ∙ (ap (λ p. place_sound table next.number p) eq
-        ∙ (sym (call-sound table (fed (λ n. blank) done) progress-reached next) ∙ ap (λ v. place_call v next.number next.rect) P.table_is))
+  -- one call more
+  module _ (c : Call) (u : List ℕ) (r i : ℕ) (m : length done ≡ i) (l : i < length before) (s : (r, u) ≡ place_sound table c.number c.rect) where
+    called : (r, u) ≡ place_call (placed first done) c.number c.rect
+    called = s ∙ (sym (call-sound table (fed (λ n. blank) done) progress-reached c) ∙ ap (λ v. place_call v c.number c.rect) P.table_is)
 
-    pub progress-more : Progress first words before (i + 1) u (set answer i r)
-    progress-more =
-        let m : length (refusals_from first done) ≡ i = length-refusals done first ∙ length-take-le i (calls_of words) (omega (arith, length-calls words)) in
-        record {
-          start = P.start;
-          table_is = ap (λ x. x.1) called ∙ rw (add-one i, calls-more words i l) (sym (placed-more done first next));
-          answer-is = rw (
-            add-one i,
-            P.answer-is,
-            drop-cons before i 0 (omega arith),
-            set_at (refusals_from first done) (get_or before i 0) (drop (suc i) before) r i m,
-            calls-more words i l,
-            refusals-more done first next,
-            ← called,
-          ) (sym (append_assoc (refusals_from first done) (r ∷ []) (drop (suc i) before)));
-        }
+    pub progress-more : Progress first before (done ++ (c ∷ [])) u (set answer i r)
+    progress-more = record {
+      start = P.start;
+      table_is = ap (λ x. x.1) called ∙ sym (placed-more done first c);
+      answer-is = rw (
+        P.answer-is,
+        length-append done (c ∷ []),
+        m,
+        add-one,
+        drop-cons before i 0 l,
+        set_at (refusals_from first done) (get_or before i 0) (drop (suc i) before) r i (length-refusals done first ∙ m),
+        refusals-more done first c,
+        ← called,
+      ) (sym (append_assoc (refusals_from first done) (r ∷ []) (drop (suc i) before)));
+    }
 
 -- the three returns
 module _ (table words answer : List ℕ) where
@@ -132,9 +101,8 @@ module _ (table words answer : List ℕ) where
   pub replay_few : TABLE_WORDS ≤ length table → length answer < length words / CALL_WORDS → (ANSWER_TOO_SHORT, table, answer) ≡ replay_call table words answer
   replay_few l k = sym (replay-tests ∙ rw (le-ltb (length table) TABLE_WORDS l, lt-ltb (length answer) (length (calls_of words)) (omega (arith, length-calls words))))
 
-  pub replay-done : (first t a : List ℕ) (r i : ℕ) → TABLE_WORDS ≤ length table → length words / CALL_WORDS ≤ length answer
-      → (r, first) ≡ empty_call table → i ≡ length words / CALL_WORDS → Progress first words answer i t a → (ACCEPTED, t, a) ≡ replay_call table words answer
-  replay-done first t a r i l k m e P =
-      let n : i ≡ length (calls_of words) = omega (arith, length-calls words) in
-      rw (P.table_is, P.answer-is, n, take-length (calls_of words), ap (λ x. x.1) m)
+  pub replay-done : (first t a : List ℕ) (r : ℕ) → TABLE_WORDS ≤ length table → length words / CALL_WORDS ≤ length answer
+      → (r, first) ≡ empty_call table → Progress first answer (calls_of words) t a → (ACCEPTED, t, a) ≡ replay_call table words answer
+  replay-done first t a r l k m P =
+      rw (P.table_is, P.answer-is, ap (λ x. x.1) m)
       (sym (replay-tests ∙ rw (le-ltb (length table) TABLE_WORDS l, le-ltb (length answer) (length (calls_of words)) (omega (arith, length-calls words)))))

@@ -1,6 +1,7 @@
 -- Place calls given as words: what `replay` leaves and returns.
-use Rattle.std.specs.Prelude.{ℕ, ◌/◌, ◌<◌, ◌≡◌, cond, List, [], ◌∷◌, ◌++◌, length, get_or, drop, ltb}
+use Rattle.std.specs.Prelude.{ℕ, ◌/◌, ◌<◌, ◌≡◌, Bool, false, cond, List, [], ◌∷◌, ◌++◌, length, get_or, drop, ltb}
 use Rattle.pages.specs.Sizes.{PIECES, TABLE_WORDS}
+use Rattle.pages.specs.Lists.{one}
 use Rattle.pages.specs.Rectangles.{rect_of}
 use Rattle.pages.specs.Layout.{unpack, table_in}
 use Rattle.pages.specs.Sound.{stored}
@@ -44,6 +45,6 @@ unfoldable pub replay_call : List ℕ → List ℕ → List ℕ → ℕ × List 
 unfolding replayed calls_of
 replay_call table words refusals = replayed table (calls_of words) refusals
 
--- the mark of each number says how often the leaves hold it: 1 where it stands, and 0 elsewhere
-abbrev pub Marked : List ℕ → List ℕ → Type 0
-Marked words marks = (c : ℕ) → c < PIECES → get_or marks c 0 ≡ stored (table_in words) c
+-- the mark of each number says whether it stands: how often the leaves hold it
+abbrev pub Marked : List ℕ → List Bool → Type 0
+Marked words marks = (c : ℕ) → c < PIECES → one (get_or marks c false) ≡ stored (table_in words) c

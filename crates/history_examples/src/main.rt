@@ -1,38 +1,34 @@
 // Places long lists of pieces, asks queries at their end, and prints what the calls return and leave.
 #![tactic(auto)]
 
+mod draws;
 mod lays;
 mod runs;
 
 use lays::Lay;
-use pages::PIECES;
-use runs::run;
+use pages::NUMBERS;
+use runs::{Run, print_run};
 use std::io;
 
-const ANSWER_WORDS: usize = PIECES as usize;
-
-fn grids(rt: &impl Print, answer: &mut [u16]) -> io::Result<()> {
-    run(rt, b"rising", Lay::Rising, PIECES, 0, 2_400, answer)?;
-    run(rt, b"falling", Lay::Falling, PIECES, 0, 2_400, answer)?;
-    run(rt, b"shuffled", Lay::Shuffled, PIECES, 1, 2_400, answer)
-}
-
-fn crowds(rt: &impl Print, answer: &mut [u16]) -> io::Result<()> {
-    run(rt, b"equal", Lay::Equal, PIECES, 0, 1, answer)?;
-    run(rt, b"strips", Lay::Strips, PIECES, 0, 55_000, answer)?;
-    run(rt, b"nested", Lay::Nested, PIECES, 0, 55_000, answer)?;
-    run(rt, b"growing", Lay::Growing, PIECES, 0, 55_000, answer)
-}
-
-fn chances(rt: &impl Print, answer: &mut [u16]) -> io::Result<()> {
-    run(rt, b"spread", Lay::Spread, PIECES, 2, 55_000, answer)?;
-    run(rt, b"tiny", Lay::Tiny, PIECES, 3, 1, answer)?;
-    run(rt, b"refused", Lay::Refused, 3_000, 4, 60, answer)
-}
+// A name, a lay, the generator's state before it, and the unit of its queries' lengths.
+const RUNS: [(&str, Lay, u32, u32); 10] = [
+    ("rising", Lay::Rising, 0, 2_400),
+    ("falling", Lay::Falling, 0, 2_400),
+    ("shuffled", Lay::Shuffled, 1, 2_400),
+    ("equal", Lay::Equal, 0, 1),
+    ("strips", Lay::Strips, 0, 55_000),
+    ("nested", Lay::Nested, 0, 55_000),
+    ("growing", Lay::Growing, 0, 55_000),
+    ("spread", Lay::Spread, 2, 55_000),
+    ("tiny", Lay::Tiny, 3, 1),
+    ("refused", Lay::Refused, 4, 60),
+];
 
 fn main(rt: HostRuntime) -> io::Result<()> {
-    let mut answer = [0u16; ANSWER_WORDS];
-    grids(&rt, &mut answer)?;
-    crowds(&rt, &mut answer)?;
-    chances(&rt, &mut answer)
+    let mut answer = [0u16; NUMBERS];
+    for (name, lay, x, unit) in RUNS {
+        let run = Run { name, lay, x, unit };
+        print_run(&rt, run, &mut answer)?;
+    }
+    Ok(())
 }

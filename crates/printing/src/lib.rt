@@ -5,6 +5,7 @@
 ghost use Rattle.std.specs.Prelude.{◌≡◌, get_or, set};
 
 use pages::Rect;
+use query::Answer;
 use std::fmt::Display;
 use std::{io, iter};
 
@@ -77,7 +78,7 @@ pub fn ask(
     clauses: &[u64],
     answer: &mut [u16],
 ) -> io::Result<()> {
-    let a = query::query(table, reference, clauses, answer);
+    let a = Answer::from(query::query(table, reference, clauses, answer));
     edges(rt, reference)?;
     number(rt, clauses.len())?;
     numbers(rt, clauses)?;

@@ -2,7 +2,10 @@
 use Prim.Native.Nat.{ℕ, ◌+◌, ◌-◌, ◌*◌, ◌/◌, ◌%◌, ◌^◌, ◌<◌}
 use native.Mathlib.Omega.{arith}
 use native.Mathlib.Decide.{dec_lt}
-use mathlib.Core.Path.{◌≡◌, ap, ◌∙◌}
+use mathlib.Core.Path.{◌≡◌, ap, ap₂, ◌∙◌}
+use Rattle.std.specs.Int.{rotate_left, w32}
+use Rattle.std.specs.Int.Bits.{bit_or, or_zero_r}
+use Rattle.std.proofs.lemmas.Nat.{or_block}
 use borrow.Author.Tests.{lt-ltb, le-ltb}
 use Rattle.relations.specs.Sets.{bit}
 use Rattle.relations.specs.Relation.{RELATIONS}
@@ -46,5 +49,17 @@ module _ (c : ℕ) where
           (ap (bit made) e ∙ (joined-high 8 c from_north (8 + m) ∙ (joined-high 8 (c / 2 ^ 32) from_east m ∙ (joined-low 24 (c / 2 ^ 8) beyond m (omega arith)
           ∙ (bit_shifted c 8 m ∙ ap (bit c) f)))))
 
-  pub made-is : made ≡ turn_clause c
-  made-is = turn_is made c (omega arith) (λ k l. made-from k (made-bit k l) l)
+  -- rotating the bits of the four directions puts west below the other three
+  abbrev directions : ℕ
+  directions = c / 2 ^ 8 % 2 ^ 32
+
+  rotated : rotate_left w32 directions 8 ≡ c / 2 ^ 32 % 2 ^ 8 + 2 ^ 8 * (c / 2 ^ 8 % 2 ^ 24)
+  rotated =
+      let west : ℕ = directions / 2 ^ 24 in
+      let others : ℕ = directions % 2 ^ 24 in
+      let moved : directions * 2 ^ 8 % 2 ^ 32 ≡ others * 2 ^ 8 + 0 = omega arith in
+      let kept : west ≡ 0 * 2 ^ 8 + west = omega arith in
+      ap₂ bit_or moved kept ∙ (or_block 8 others 0 0 west (omega arith) (omega arith) ∙ rw or_zero_r (omega arith))
+
+  pub made_is : c % 2 ^ 8 + 2 ^ 8 * rotate_left w32 directions 8 + 2 ^ 40 * beyond ≡ turn_clause c
+  made_is = rw rotated (omega arith) ∙ turn_is made c (omega arith) (λ k l. made-from k (made-bit k l) l)

@@ -100,15 +100,17 @@ module _ (q p : Rect) where
         ap₂ (λ i j. admits (turn_query clauses) i j) turned-y turned-x
         ∙ admits-turned (code_y q p) (code_x q p) (is_code p.y1 p.y2 q.y1 q.y2) (is_code p.x1 p.x2 q.x1 q.x2) clauses
 
--- what the source returns, by the answer b of `is_valid`
-module _ (r : Rect) (b : Bool) (e : b ≡ valid r) where
-  pub answer-refused : (z : Rect) → b ≡ false → z ≡ rect_of 0 0 0 0 → z ≡ turned_rect r
+-- what the source returns, by the answer of `is_valid`
+module _ (r : Rect) where
+  pub answer_refused : valid r ≡ false → rect_of 0 0 0 0 ≡ turned_rect r
   unfolding turned_rect
-  answer-refused z f h = h ∙ sym (rw (sym e ∙ f))
+  answer_refused f = sym (rw f)
 
-  pub answer-turned : b ≡ true → turn_rect r ≡ turned_rect r
-  unfolding turned_rect
-  answer-turned t = sym (rw (sym e ∙ t))
+  pub answer_turned : valid r ≡ true → rect_of r.y1 (EDGE - r.x2) r.y2 (EDGE - r.x1) ≡ turned_rect r
+  unfolding turned_rect turn_rect
+  answer_turned t = sym (rw t)
 
-  pub valid-edges : b ≡ true → Edges r
-  valid-edges t = edges r (true-T (valid r) (sym e ∙ t))
+  pub edges_fit : valid r ≡ true → (r.x1 ≤ EDGE) × (r.x2 ≤ EDGE)
+  edges_fit t =
+      let e = edges r (true-T (valid r) t) in
+      (e.x-start, e.x-end)

@@ -7,22 +7,23 @@ ghost use Rattle.turning.specs.Turn.{turned_rect, turn_clause};
 use pages::{EDGE, Rect};
 
 // The eight kinds of a direction, and the relations without one, take eight bits of a clause each.
+const DIRECTION_BITS: u32 = 8;
+
 const EIGHT_BITS: u64 = 1 << 8;
 
-// The bits of north, east and south together.
-const THREE_DIRECTIONS: u64 = 1 << 24;
+// The bits of the four directions, from north on.
+const FOUR_DIRECTIONS: u64 = 1 << 32;
 
-// Where the bits of west begin, and those that stand for no relation.
-const WEST: u64 = 1 << 32;
-
+// Where the bits that stand for no relation begin.
 const BEYOND: u64 = 1 << 40;
 
 // The rectangle after the turn; zeros for one that is not valid.
+#[tactic(auto, using(crate::proofs::Rects::answer_refused, crate::proofs::Rects::answer_turned, crate::proofs::Rects::edges_fit))]
 pub fn turned_rect(r: Rect) -> Rect
     ensures { result ≡ turned_rect r }
 {
-    if !pages::is_valid(r) {
-        return pages::no_rect();
+    if !r.is_valid() {
+        return Rect::default();
     }
     Rect {
         x1: r.y1,
@@ -32,13 +33,13 @@ pub fn turned_rect(r: Rect) -> Rect
     }
 }
 
-// The clause that names what the relations of this one become: west takes the place of north, and each other direction that of the next.
+// The clause that names what the relations of this one become: each direction takes the place of the next, and west that of north.
+#[tactic(auto, using(crate::proofs::Made::made_is))]
 pub fn turned_clause(clause: u64) -> u64
     ensures { result ≡ turn_clause clause }
 {
-    let topological: u64 = clause % EIGHT_BITS;
-    let others: u64 = clause / EIGHT_BITS % THREE_DIRECTIONS;
-    let west: u64 = clause / WEST % EIGHT_BITS;
-    let beyond: u64 = clause / BEYOND;
-    topological + EIGHT_BITS * (west + EIGHT_BITS * (others + THREE_DIRECTIONS * beyond))
+    let topological = clause % EIGHT_BITS;
+    let directions = (clause / EIGHT_BITS % FOUR_DIRECTIONS) as u32;
+    let turned = u64::from(directions.rotate_left(DIRECTION_BITS));
+    topological + EIGHT_BITS * turned + BEYOND * (clause / BEYOND)
 }

@@ -1,37 +1,41 @@
--- `Progress` says what i calls leave, and `Marked` which numbers stand then: what `place_marked` requires.
-use Rattle.std.proofs.Common.{rules}
-use mathlib.Core.Path.{refl}
 use native.Mathlib.Omega.{arith}
-use lib.ListN.{length-set}
+use mathlib.Core.Path.{◌≡◌, sym, ap, ◌∙◌}
+use mathlib.Core.List.{[], map}
+use lib.ListN.{length, get_or, take}
+use lib.Seq.{take-length, length-take-le}
+use Rattle.std.proofs.lemmas.List.{length-map, map_more}
+use Rattle.history.specs.Replay.{call_in, calls_of}
 use Rattle.history.proofs.Reached.{reached-emptied}
 use Rattle.history.proofs.Marking.{marked-none}
-use Rattle.history.proofs.Replaying.{progress-none, progress-reached, progress-more, replay-done}
+use Rattle.history.proofs.Replaying.{calls-grouped, progress-none, progress-reached, progress-more, replay-done}
 use Rattle.history.proofs.replay.Goals as goal
 
 pub loop-i-init : goal.loop-i-init
 loop-i-init c =
     let start = reached-emptied _ _ _ (omega arith) c.empty.ensures in
-    (search rules, refl, refl, progress-none _ _ _ start, search rules, marked-none _ start)
+    record { so_far = progress-none _ _ start; marked = marked-none _ start }
 
-pub place_marked-requires : goal.place_marked-requires
-place_marked-requires c =
-    let inv = c.loop-i.invariant in
-    let R = progress-reached inv.3 in
-    (R.long, R.sound, search rules, inv.5)
+pub place_marked-requires-clause-sound : goal.place_marked-requires-clause-sound
+place_marked-requires-clause-sound c = (progress-reached c.loop-i.invariant.so_far).sound
 
 pub loop-i-preserved : goal.loop-i-preserved
+unfolding call_in
 loop-i-preserved c =
     let at = c.loop-i in
-    let call = c.place_marked in
-    let rect = c.rect_at in (
-      search rules,
-      search rules,
-      simp length-set (search rules),
-      progress-more at.invariant.3 call.new.table call.result rect.result (search rules) (search rules) rect.ensures call.ensures.0,
-      search rules,
-      call.ensures.1,
-    )
+    let groups = c.as_chunks.result.0.now in
+    let count = length-map (take at.i groups) call_in ∙ length-take-le at.i groups (omega arith) in
+    let answer = ap (λ k. (k, c.place_marked.new.table)) c.refusal_of.ensures ∙ c.place_marked.ensures.answer in
+    record {
+      so_far = rw (map_more call_in groups at.i [] c.loop-i-test.true)
+          (progress-more at.invariant.so_far (call_in (get_or groups at.i [])) c.place_marked.new.table c.refusal_of.result at.i count (omega arith) answer);
+      marked = c.place_marked.ensures.marked;
+    }
 
 pub returns : goal.returns
 returns c =
-    replay-done _ _ _ _ _ _ _ _ (search rules) (search rules) c.empty.ensures (search rules) c.loop-i.invariant.3
+    let at = c.loop-i in
+    let words = c.args.calls.now in
+    let groups = c.as_chunks.result.0.now in
+    let all : at.i ≡ length groups = omega arith in
+    let done : map call_in (take at.i groups) ≡ calls_of words = rw (all, take-length groups, c.as_chunks.ensures.front) (sym (calls-grouped words)) in
+    replay-done c.args.table.now words c.args.refusals.now _ _ _ _ (omega arith) (omega arith) c.empty.ensures (rw done at at.invariant.so_far)
