@@ -2,7 +2,7 @@
 use mathlib.Core.Bool.{Bool, true, false, ◌||◌}
 use mathlib.Core.List.{List, map}
 use mathlib.Core.Path.{◌≡◌, refl, sym, ap, ap₂, ◌∙◌}
-use Prim.Native.Nat.{ℕ, zero, suc, ◌+◌, ◌^◌, ◌≤◌, ◌<◌}
+use Prim.Native.Nat.{ℕ, zero, suc, ◌+◌, ◌≤◌, ◌<◌}
 use native.Mathlib.Nat.{add-zero, zero-add}
 use native.Mathlib.Omega.{arith}
 use lib.Count.{ones}
@@ -13,21 +13,16 @@ use Rattle.refusals.specs.declared.Refusal.{Refusal}
 use Rattle.refusals.specs.declared.Refusal.TheVariants.{TableTooShort, RectangleNotValid, NumberTooLarge, ClauseCount, ClauseNotValid, TableNotSound, AlreadyStanding, AnswerTooShort, PointCount, CoordinateTooLarge}
 use Rattle.refusals.specs.Numbers.{number_of}
 use Rattle.relations.specs.declared.RowSets.{RowSets}
-use borrow.Author.Tests.{eq-eqb, ne_eqb, lt-ltb, le-ltb, le-leb, lt-leb}
+use borrow.Author.Tests.{ne_eqb, lt-ltb, le-ltb}
 use Rattle.relations.specs.declared.AdmittedSet.{AdmittedSet}
 use Rattle.relations.specs.Sets.{total, listed}
 use Rattle.relations.specs.Axis.{CODES}
-use Rattle.relations.specs.Relation.{RELATIONS}
 use Rattle.relations.specs.Query.{CLAUSES, CLAUSE_COUNT, CLAUSE_NOT_VALID, admits, row_set, row_sets, admitted_count, bad_clause, some_bad, refusal_of, answer, admitted_of, count_of, admitted_set_of}
 use Rattle.relations.proofs.Bits.{ones-packed, total-front, total-same}
 
 -- ---- refusals
 
 module _ (cs : List ℕ) where
-  pub refuse-none : length cs ≡ 0 → CLAUSE_COUNT ≡ refusal_of cs
-  unfolding refusal_of
-  refuse-none e = simp (eq-eqb (length cs) 0 e)
-
   pub refuse-many : (length cs ≡ 0 → ⊥) → CLAUSES < length cs → CLAUSE_COUNT ≡ refusal_of cs
   unfolding refusal_of
   refuse-many n h = simp (ne_eqb (length cs) 0 n, lt-ltb CLAUSES (length cs) h)
@@ -39,19 +34,6 @@ module _ (cs : List ℕ) where
   pub accept : (length cs ≡ 0 → ⊥) → length cs ≤ CLAUSES → some_bad cs ≡ false → 0 ≡ refusal_of cs
   unfolding refusal_of
   accept n h e = simp (ne_eqb (length cs) 0 n, le-ltb CLAUSES (length cs) h, e)
-
-module _ (c : ℕ) where
-  pub bad-zero : c ≡ 0 → bad_clause c ≡ true
-  unfolding bad_clause
-  bad-zero e = simp (eq-eqb c 0 e)
-
-  pub bad-high : (c ≡ 0 → ⊥) → 2 ^ RELATIONS ≤ c → bad_clause c ≡ true
-  unfolding bad_clause
-  bad-high n h = simp (ne_eqb c 0 n, le-leb (2 ^ RELATIONS) c h)
-
-  pub good : (c ≡ 0 → ⊥) → c < 2 ^ RELATIONS → bad_clause c ≡ false
-  unfolding bad_clause
-  good n h = simp (ne_eqb c 0 n, lt-leb (2 ^ RELATIONS) c h)
 
 -- as the source tests the clauses, one by one
 pub some-bad : (cs : List ℕ) → list_any bad_clause cs ≡ some_bad cs

@@ -1,14 +1,12 @@
 -- The thirteen rows of relations, clauses and queries: what each turn of the loops that gather them adds.
 use mathlib.Core.Bool.{Bool, true, false, cond, ◌&&◌, and-true, and-false, and_assoc, or-false}
 use mathlib.Core.List.{List, [], ◌∷◌, ◌++◌}
-use mathlib.Core.Logic.{◌≢◌}
 use mathlib.Core.Path.{◌≡◌, refl, sym, ap, ap₂, ◌∙◌}
-use Prim.Native.Nat.{ℕ, zero, suc, ◌+◌, ◌-◌, ◌/◌, ◌%◌, ◌^◌, ◌≤◌, ◌<◌}
-use native.Mathlib.Nat.{add-zero, zero-add, div-one}
+use Prim.Native.Nat.{ℕ, zero, suc, ◌+◌, ◌/◌, ◌%◌, ◌^◌, ◌≤◌, ◌<◌}
+use native.Mathlib.Nat.{add-zero, div-one}
 use native.Mathlib.Numerals.{add-one}
 use native.Mathlib.Omega.{arith}
 use lib.Bits.{bit_and, bit_or, or_zero_r}
-use lib.Count.{count_trailing_zeros}
 use lib.ListN.{length, get_or, set, take, replicate}
 use lib.Pow.{shr-shr}
 use lib.Seq.{take-suc, take_all}
@@ -19,8 +17,7 @@ use Rattle.relations.specs.Axis.{CODES}
 use Rattle.relations.specs.Relation.{RELATIONS, codes_of, in_relation, mask_of, sets_of}
 use Rattle.relations.specs.Query.{named, admits, row_set, row_sets}
 use Rattle.relations.specs.Steps.{relation_row, named_row, with_relation, cut_to}
-use Rattle.relations.proofs.Bits.{bit-zero, bit-packed, none_above, packed_none, packed-same, packed-or, packed-and, listed_at, length-listed, listed_same}
-use Rattle.relations.proofs.Lowest.{ones_none, lowest_one, lowest}
+use Rattle.relations.proofs.Bits.{bit-zero, bit-packed, none_above, packed_none, packed-same, packed-or, packed-and, listed_at, listed_same}
 use Rattle.relations.proofs.Filled.{filled, filled_at, filled_more}
 
 -- the test of the source
@@ -132,19 +129,6 @@ module _ (clause : ℕ) where
       ∙ part-ones 64 0
       ∙ listed_same _ _ CODES (λ h _. packed-same _ _ CODES (λ k _. none_above _ RELATIONS 24 (λ u l. rw (no-relation u (suc h) (suc k) l, and-false))))
 
--- the lowest one first
-pub gather-lowest : (rows now : List ℕ) (n : ℕ) → n ≢ 0 → n < 2 ^ 64 → now ≡ with_relation rows (count_trailing_zeros 64 n) → gathered now (ones_from 0 64 (n - lowest_one 64 n)) ≡ gathered rows (ones_from 0 64 n)
-unfolding gathered
-gather-lowest rows now n z l e = rw (e, (lowest 64 n z l).first 0, zero-add)
-
-pub gather-end : (rows : List ℕ) (n : ℕ) → n ≡ 0 → rows ≡ gathered rows (ones_from 0 64 n)
-unfolding gathered
-gather-end rows n z = rw (z, ones_none)
-
-pub with-length : (rows : List ℕ) (t : ℕ) → length (with_relation rows t) ≡ CODES
-unfolding with_relation
-with-length rows t = length-listed (λ h. bit_or (get_or rows h 0) (relation_row t (suc h))) CODES
-
 -- as the source cuts row h
 pub cut-row : (rows : List ℕ) (clause h : ℕ) (now named : List ℕ) → h < CODES → named ≡ listed (λ k. named_row clause (suc k)) CODES
     → now ≡ filled (λ k. bit_and (get_or rows k 0) (named_row clause (suc k))) rows CODES h
@@ -168,10 +152,6 @@ admits-parts (c ∷ cs) ds i j = ap (λ (b : Bool). named c i j && b) (admits-pa
 admits-more : (cs : List ℕ) (c i j : ℕ) → admits (cs ++ (c ∷ [])) i j ≡ (admits cs i j && named c i j)
 unfolding admits
 admits-more cs c i j = admits-parts cs (c ∷ []) i j ∙ ap (λ (b : Bool). admits cs i j && b) (and-true (named c i j))
-
-pub query-length : (cs : List ℕ) → length (row_sets cs) ≡ CODES
-unfolding row_sets
-query-length cs = length-listed (λ h. row_set cs (suc h)) CODES
 
 pub query-none : replicate CODES 8191 ≡ row_sets []
 unfolding row_sets row_set admits packed listed

@@ -174,7 +174,7 @@ fn some_bad(clauses: &[u64]) -> bool
         .any(|&clause| clause == 0 || clause >= 1 << RELATIONS)
 }
 
-// Whether the clauses are a query.
+// Refuses clauses that are no query.
 #[tactic(auto, unfolding(crate::specs::Query::refusal_of))]
 fn refused(clauses: &[u64]) -> Result<(), Refusal>
     ensures { refusal_of result ≡ clauses_refusal clauses.now }
@@ -202,7 +202,6 @@ pub fn admitted(clauses: &[u64]) -> Result<RowSets, Refusal>
 
 impl RowSets {
     /// Whether configuration (i, j) is admitted.
-    #[tactic(auto, unfolding(crate::specs::Steps::rows_have, crate::specs::Sets::bit))]
     pub fn has(&self, i: Code, j: Code) -> bool
         ensures { result ≡ rows_have self.now.rows i.number j.number }
     {
@@ -270,7 +269,6 @@ fn joined(rows: &[u16; CODES]) -> [u16; CODES]
 }
 
 impl PageTest {
-    #[tactic(auto, using(crate::proofs::Quarter::masks_are))]
     pub fn new(set: &RowSets) -> PageTest
         ensures { result.below ≡ joined_of set.now.rows }
     {
@@ -281,7 +279,6 @@ impl PageTest {
     }
 
     /// Whether a page of codes cy and cx can hold an admitted configuration.
-    #[tactic(auto, using(crate::proofs::Pages::tested))]
     pub fn may_hold(&self, cy: Code, cx: Code) -> bool
         ensures { result ≡ page_test self.now.below cy.number cx.number }
     {
