@@ -128,15 +128,6 @@ module _ (p1 p2 q1 q2 : ℕ) (lp : p1 ≤ p2) (lq : q1 ≤ q2) where
       let z = ap (λ (z : ℕ). p2 - z) eb ∙ less (units_in p1 p2 q1 q2 2) (second p1 p2 q1 q2) p2 parts.after in
       rw (x, y, z)
 
-  units-short : (s : ℕ) → s < STRIPS → units_in p1 p2 q1 q2 s ≤ p2
-  units-short zero k = omega (arith, parts.before)
-  units-short (suc zero) k = omega (arith, parts.between)
-  units-short (suc (suc zero)) k = omega (arith, parts.after)
-  units-short (suc (suc (suc n))) k = absurd (omega arith)
-
 pub cut-at : (p1 p2 q1 q2 s : ℕ) → s < STRIPS → get_or (cut_at p1 p2 q1 q2) s 0 ≡ units_in p1 p2 q1 q2 s
 unfolding cut_at
 cut-at p1 p2 q1 q2 s h = listed_at (units_in p1 p2 q1 q2) STRIPS s h
-
-pub cut_short : (p1 p2 q1 q2 : ℕ) → p1 ≤ p2 → q1 ≤ q2 → p2 ≤ EDGE → Short (cut_at p1 p2 q1 q2)
-cut_short p1 p2 q1 q2 lp lq l s h = omega (arith, cut-at p1 p2 q1 q2 s h, units-short p1 p2 q1 q2 lp lq s h)

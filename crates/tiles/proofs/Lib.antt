@@ -1,5 +1,6 @@
--- The laws: `Cutting` (a side cut at two lines), `Areas` (areas as products of two cuts), `Called` (what the call returns), then those of
+-- The laws: `Arrays` (what `map` and `default` make), `Cutting` (a side cut at two lines), `Areas` (areas as products of two cuts), `Called` (what the call returns), then those of
 -- the claims. `Claimed` proves what `Claims` states.
+pub mod Arrays
 pub mod Cutting
 pub mod Areas
 pub mod Called

@@ -1,10 +1,13 @@
 -- The call: what it returns for two rectangles, whatever they are.
-use Rattle.std.specs.Prelude.{ℕ, ◌*◌, ◌/◌, ◌%◌, ◌&&◌, cond, replicate}
+use Rattle.std.specs.Prelude.{ℕ, ◌*◌, ◌/◌, ◌%◌, ◌&&◌, cond, List, map, replicate, Result, Ok, Err}
+use Rattle.refusals.specs.declared.Refusal.{Refusal}
+use Rattle.refusals.specs.Numbers.{number_of}
 use Rattle.relations.specs.Sets.{listed}
 use Rattle.pages.specs.declared.Rect.{Rect}
 use Rattle.pages.specs.Rectangles.{valid}
 use Rattle.pages.specs.Refusals.{ACCEPTED, RECTANGLE_NOT_VALID}
 use Rattle.tiles.specs.declared.Shares.{Shares}
+use Rattle.tiles.specs.declared.TileShare.{TileShare}
 use Rattle.tiles.specs.Tiles.{TILES, area_of, area_in}
 
 abbrev pub THOUSAND : ℕ
@@ -39,3 +42,13 @@ no_shares = record {
 -- "For two valid rectangles .."; "If either rectangle is not valid .."
 unfoldable pub shares_call : Rect → Rect → Shares
 shares_call piece reference = cond (valid piece && valid reference) (shares_in (area_in piece reference) (area_of piece)) no_shares
+
+-- what C gets of the call's answer
+abbrev pub shares_from : Result (List TileShare) Refusal → Shares
+shares_from (Ok tiles) = record {
+  refusal = ACCEPTED;
+  areas = map (λ s. s.area) tiles;
+  thousandths = map (λ s. s.thousandths) tiles;
+  remainders = map (λ s. s.remainder) tiles;
+}
+shares_from (Err refusal) = record no_shares { refusal = number_of refusal }

@@ -1,23 +1,25 @@
 -- Either rectangle not valid is refused.
-use mathlib.Core.Path.{sym, ◌∙◌}
-use Rattle.tiles.proofs.Called.{valid-by, accepted, refused-piece, refused-reference}
+use mathlib.Core.Path.{ap₂, ◌∙◌}
+use Rattle.std.proofs.lemmas.Result.{err_from_is_err_and}
+use Rattle.pages.specs.declared.Rect.{Rect}
+use Rattle.tiles.specs.Steps.{shares_in_tiles}
+use Rattle.tiles.proofs.Called.{shared, refused-piece, refused-reference}
 use Rattle.tiles.proofs.tile_shares.Goals as goal
 
-pub returns-then-not-is_valid : goal.returns-then-not-is_valid
-returns-then-not-is_valid c = c.no_shares.ensures ∙ sym (refused-piece _ _ (sym c.is_valid.ensures ∙ c.if-not-is_valid.true))
+pub returns-in_err-sides : goal.returns-in_err-sides
+returns-in_err-sides c =
+    let p = err_from_is_err_and c.from_residual.result c.from_residual.ensures.1 in
+    let e = c.in_err-sides.ensures in
+    rw (p.1, p.2, e.1) (refused-piece _ _ e.0)
 
-pub returns-then-not-is_valid-2 : goal.returns-then-not-is_valid-2
-returns-then-not-is_valid-2 c = c.no_shares-then-not-is_valid-2.ensures ∙ sym (refused-reference _ _ (sym c.is_valid-2.ensures ∙ c.if-not-is_valid-2.true))
-
-pub valid_shares-requires : goal.valid_shares-requires
-valid_shares-requires c =
-    let first = c in
-    record { piece = valid-by _ _ first.is_valid.ensures first.if-not-is_valid.false; reference = valid-by _ _ c.is_valid-2.ensures c.if-not-is_valid-2.false }
+pub returns-in_err-lines : goal.returns-in_err-lines
+returns-in_err-lines c =
+    let p = err_from_is_err_and c.from_residual-in_err-lines.result c.from_residual-in_err-lines.ensures.1 in
+    let e = c.in_err-lines.ensures in
+    rw (p.1, p.2, e.1) (refused-reference _ _ e.0)
 
 pub returns : goal.returns
 returns c =
-    let tested = c in
-    let first = tested in
-    let piece = valid-by _ _ first.is_valid.ensures first.if-not-is_valid.false in
-    let reference = valid-by _ _ tested.is_valid-2.ensures tested.if-not-is_valid-2.false in
-    c.valid_shares.ensures ∙ sym (accepted _ _ piece reference)
+    let p = c.in_ok-sides.ensures in
+    let q = c.in_ok-lines.ensures in
+    shared _ _ _ (c.shares_by.ensures ∙ ap₂ (λ (a b : Rect). shares_in_tiles a b) p.1 q.1) p.0 q.0

@@ -1,0 +1,95 @@
+// The sides of a valid rectangle, and how the edge lines of another cut them.
+ghost use Rattle.std.specs.Prelude.{◌≡◌, ◌-◌, ◌≤◌, ◌<◌};
+ghost use Rattle.pages.specs.Sizes.{EDGE};
+ghost use Rattle.tiles.specs.Tiles.{area_of};
+ghost use Rattle.tiles.specs.Steps.{Short, cut_at, shares_in_tiles};
+
+use super::{STRIPS, TILES, TileShare};
+use pages::Rect;
+use refusals::Refusal;
+
+/// A side of a valid rectangle on one axis; of the reference, its two edge lines there.
+#[derive(Clone, Copy, Debug, PartialEq, Eq)]
+pub struct Side {
+    start: u32,
+    end: u32,
+    pub ghost rising: { start < end },
+    pub ghost within: { end ≤ EDGE },
+}
+
+impl Side {
+    fn length(self) -> u64
+        ensures { result ≡ self.end - self.start }
+    {
+        (self.end - self.start) as u64
+    }
+
+    // Cut at the two lines, each drawn in to the side.
+    fn cut(self, lines: Side) -> [u64; STRIPS]
+        ensures cut { result ≡ cut_at self.start self.end lines.start lines.end }
+        ensures short { Short result }
+    {
+        let first = lines.start.clamp(self.start, self.end);
+        let second = lines.end.clamp(self.start, self.end);
+        [
+            (first - self.start) as u64,
+            (second - first) as u64,
+            (self.end - second) as u64,
+        ]
+    }
+}
+
+/// The sides of a valid rectangle.
+#[derive(Clone, Copy, Debug, PartialEq, Eq)]
+pub struct Sides {
+    x: Side,
+    y: Side,
+}
+
+impl TryFrom<Rect> for Sides {
+    ghost use Rattle.tiles.specs.Sides.{IsSidesOf};
+
+    type Error = Refusal;
+
+    ghost try_from_gives = { IsSidesOf };
+
+    fn try_from(r: Rect) -> Result<Sides, Refusal> {
+        if !r.is_valid() {
+            return Err(Refusal::RectangleNotValid);
+        }
+        Ok(Sides {
+            x: Side {
+                start: r.x1,
+                end: r.x2,
+            },
+            y: Side {
+                start: r.y1,
+                end: r.y2,
+            },
+        })
+    }
+}
+
+impl Sides {
+    ghost use Rattle.tiles.specs.Sides.{rect_with};
+
+    fn area(self) -> u64
+        ensures area { result ≡ area_of (rect_with self) }
+        ensures some { 0 < result }
+    {
+        self.x.length() * self.y.length()
+    }
+
+    pub fn shares_by(self, lines: Sides) -> [TileShare; TILES]
+        ensures { result ≡ shares_in_tiles (rect_with self) (rect_with lines) }
+    {
+        let heights = self.y.cut(lines.y);
+        let widths = self.x.cut(lines.x);
+        let whole = self.area();
+        let mut shares = [TileShare::default(); TILES];
+        for (t, share) in shares.iter_mut().enumerate() {
+            *share = TileShare::new(heights[t / STRIPS] * widths[t % STRIPS], whole);
+        }
+        shares
+    }
+}
