@@ -9,10 +9,9 @@ use lib.ListN.{get_or}
 use Rattle.std.proofs.lemmas.Bool.Decides.{nat_tests}
 use Rattle.relations.specs.Sets.{listed}
 use Rattle.relations.proofs.Bits.{listed_at}
-use Rattle.pages.specs.Sizes.{EDGE}
 use Rattle.pages.specs.Lists.{one, sum_below}
 use Rattle.tiles.specs.Tiles.{STRIPS, strip}
-use Rattle.tiles.specs.Steps.{units_in, cut_at, Short}
+use Rattle.tiles.specs.Steps.{units_in, cut_at}
 
 strip-before : (q1 q2 x : ℕ) → x < q1 → strip q1 q2 x ≡ 0
 unfolding strip
