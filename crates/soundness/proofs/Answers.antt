@@ -29,23 +29,23 @@ abbrev not_sound : Checked
 not_sound = record { refusal = TABLE_NOT_SOUND; pieces = 0 }
 
 -- the three answers
-pub answer-short : (w : List ℕ) → length w < TABLE_WORDS → check_call w ≡ record { refusal = TABLE_TOO_SHORT; pieces = 0 }
+pub answer_short : (w : List ℕ) → length w < TABLE_WORDS → check_call w ≡ record { refusal = TABLE_TOO_SHORT; pieces = 0 }
 unfolding check_call
-answer-short w l = rw (lt-ltb (length w) TABLE_WORDS l)
+answer_short w l = rw (lt-ltb (length w) TABLE_WORDS l)
 
 module _ (w : List ℕ) (long : TABLE_WORDS ≤ length w) where
   answer-long : check_call w ≡ cond (sound w) (record { refusal = ACCEPTED; pieces = (table_in w).count }) not_sound
   unfolding check_call
   answer-long = ap (λ b. cond b too_short (cond (sound w) (record { refusal = ACCEPTED; pieces = (table_in w).count }) not_sound)) (le-ltb (length w) TABLE_WORDS long)
 
-  pub answer-unsound : (T (sound w) → ⊥) → check_call w ≡ record { refusal = TABLE_NOT_SOUND; pieces = 0 }
-  answer-unsound n = answer-long ∙ ap (λ b. cond b (record { refusal = ACCEPTED; pieces = (table_in w).count }) not_sound) (T_false (sound w) n)
+  pub answer_unsound : sound w ≡ false → check_call w ≡ record { refusal = TABLE_NOT_SOUND; pieces = 0 }
+  answer_unsound e = answer-long ∙ ap (λ b. cond b (record { refusal = ACCEPTED; pieces = (table_in w).count }) not_sound) e
 
-  pub answer-sound : T (sound w) → check_call w ≡ record { refusal = ACCEPTED; pieces = (table_in w).count }
-  answer-sound s = answer-long ∙ ap (λ b. cond b (record { refusal = ACCEPTED; pieces = (table_in w).count }) not_sound) (T_true (sound w) s)
+  answer-sound : sound w ≡ true → check_call w ≡ record { refusal = ACCEPTED; pieces = (table_in w).count }
+  answer-sound e = answer-long ∙ ap (λ b. cond b (record { refusal = ACCEPTED; pieces = (table_in w).count }) not_sound) e
 
-  pub answer-words : T (sound w) → check_call w ≡ record { refusal = ACCEPTED; pieces = get_or w 2 0 }
-  answer-words s = answer-sound s ∙ (λ i. record { refusal = ACCEPTED; pieces = pieces-word w long i })
+  pub answer_words : sound w ≡ true → check_call w ≡ record { refusal = ACCEPTED; pieces = get_or w 2 0 }
+  answer_words e = answer-sound e ∙ (λ i. record { refusal = ACCEPTED; pieces = pieces-word w long i })
 
 -- and there is no fourth one
 answers : (w : List ℕ) (P : Checked → Type 0) → (length w < TABLE_WORDS → P too_short) → (TABLE_WORDS ≤ length w → (T (sound w) → ⊥) → P not_sound)
@@ -53,11 +53,11 @@ answers : (w : List ℕ) (P : Checked → Type 0) → (length w < TABLE_WORDS �
 answers w P a b c = go (dec_lt (length w) TABLE_WORDS)
   where
     decided : TABLE_WORDS ≤ length w → (t : Bool) → sound w ≡ t → P (check_call w)
-    decided l true e = subst P (sym (answer-sound w l (true-T (sound w) e))) (c l (true-T (sound w) e))
-    decided l false e = subst P (sym (answer-unsound w l (false-T (sound w) e))) (b l (false-T (sound w) e))
+    decided l true e = subst P (sym (answer-sound w l e)) (c l (true-T (sound w) e))
+    decided l false e = subst P (sym (answer_unsound w l e)) (b l (false-T (sound w) e))
 
     go : Dec (length w < TABLE_WORDS) → P (check_call w)
-    go (yes l) = subst P (sym (answer-short w l)) (a l)
+    go (yes l) = subst P (sym (answer_short w l)) (a l)
     go (no n) = decided (omega arith) (sound w) refl
 
 -- so a refusal says why

@@ -29,8 +29,8 @@ front-part w n a l k =
     let e : drop a w ≡ drop a x ++ drop n w = ap (drop a) (sym (take-append-drop n w)) ∙ drop-append-le a x (drop n w) (omega arith) in
     ap (take (n - a)) e ∙ take_at (drop a x) (drop n w) (n - a) (omega (arith, length-drop a x))
 
-module _ (w : List ℕ) (k root h : ℕ) (R : Rooted w k root h) (s₀ n₀ s₁ n₁ : List ℕ) (v : Option Rect)
-    (sz : (q : ℕ) → get_or s₀ q 0 ≡ 0) (nz : (c : ℕ) → get_or n₀ c 0 ≡ 0) (m : ℕ) (me : m ≡ root_fewest h) (y : Visited w h m root s₀ n₀ v s₁ n₁) where
+module _ {w : List ℕ} {k root h : ℕ} (R : Rooted w k root h) {s₀ n₀ s₁ n₁ : List ℕ} {v : Option Rect}
+    (sz : (q : ℕ) → get_or s₀ q 0 ≡ 0) (nz : (c : ℕ) → get_or n₀ c 0 ≡ 0) {m : ℕ} (me : m ≡ root_fewest h) (y : Visited w h m root s₀ n₀ v s₁ n₁) where
   x : Visited w h (root_fewest h) root s₀ n₀ v s₁ n₁
   x = subst (λ a. Visited w h a root s₀ n₀ v s₁ n₁) me y
 
@@ -38,7 +38,7 @@ module _ (w : List ℕ) (k root h : ℕ) (R : Rooted w k root h) (s₀ n₀ s₁
   walk_refuses f = sym (T_false (sound w) (λ s. x.no f (root-tree w k root h R s) (room-pages w k root h R s s₀ sz) (room-pieces w k root h R s n₀ nz)))
 
   -- the walk has the table and its count of pages to the end
-  module _ (good : is_some v ≡ true) (w' : List ℕ) (same : w' ≡ w) (k' : ℕ) (count : k' ≡ length (table_in w').pages) where
+  module _ (good : is_some v ≡ true) {w' : List ℕ} (same : w' ≡ w) {k' : ℕ} (count : k' ≡ length (table_in w').pages) where
     k-same : k' ≡ k
     k-same = count ∙ (ap (λ a. length (table_in a).pages) same ∙ sym R.count)
 
@@ -64,10 +64,10 @@ module _ (w : List ℕ) (k root h : ℕ) (R : Rooted w k root h) (s₀ n₀ s₁
     stores-few : (c : ℕ) → c < PIECES → stores w h root c ≤ 1
     stores-few c l = omega (arith, nz c, (x.yes good).2 c l)
 
-    pub rest_decides : Complete w' k' s₁ n₁ → (b : Bool)
+    pub rest_decides : Complete w' k' s₁ n₁ → {b : Bool}
         → b ≡ zeros (take (TABLE_WORDS - (TABLE_HEAD + PAGE_WORDS * k)) (drop (TABLE_HEAD + PAGE_WORDS * k) w)) → b ≡ sound w
     unfolding total_of
-    rest_decides t b e = go b (e ∙ ap zeros (front-part w TABLE_WORDS (TABLE_HEAD + PAGE_WORDS * k) R.long fits))
+    rest_decides t {b} e = go b (e ∙ ap zeros (front-part w TABLE_WORDS (TABLE_HEAD + PAGE_WORDS * k) R.long fits))
       where
         fits : TABLE_HEAD + PAGE_WORDS * k ≤ TABLE_WORDS
         fits = omega (arith, R.most)

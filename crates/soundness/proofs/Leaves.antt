@@ -1,56 +1,34 @@
--- The entries of a leaf, one after the other.
-use Prim.Native.Nat.{ℕ, ◌+◌, ◌≤◌, ◌<◌}
+-- The entries of a leaf, one before the others.
+use Prim.Native.Nat.{ℕ}
 use native.Mathlib.Omega.{arith}
-use native.Mathlib.Nat.{le_antisymm}
-use mathlib.Core.Path.{◌≡◌, refl, ap, subst, ◌∙◌}
+use mathlib.Core.Path.{◌≡◌, refl, sym, subst}
 use mathlib.Core.Bool.{Bool, true, false}
-use mathlib.Core.List.{List}
-use Rattle.std.specs.Prelude.{Some, None}
-use Rattle.pages.specs.declared.Rect.{Rect}
+use mathlib.Core.List.{List, [], ◌∷◌}
 use Rattle.pages.specs.declared.Entry.{Entry}
 use Rattle.pages.specs.Sizes.{PIECES}
 use Rattle.pages.specs.Lists.{sum, Every}
-use Rattle.pages.specs.Rectangles.{widen, widen_all}
-use Rattle.pages.specs.Readers.{entry_in, entries_in}
 use Rattle.pages.specs.Sound.{is}
 use Rattle.pages.proofs.Lists.{not-both}
-use Rattle.pages.proofs.Bounds.{length-entries}
-use Rattle.soundness.specs.Steps.{Adds, Piece, Tested, LeafTested}
+use Rattle.soundness.specs.Steps.{Piece, Tested}
 use Rattle.soundness.proofs.Marks.{adds_none, adds-more, room-left}
-use Rattle.soundness.proofs.Entries.{every_more, sum_more, every-entry, sum-entry, widen_more, widen-done}
 
-module _ (w g₀ : List ℕ) (b₀ : Rect) where
-  -- the state before entry i
-  abbrev pub Taken : ℕ → List ℕ → Rect → Type 0
-  Taken i g b = Every Piece (entries_in w i) × Adds PIECES g₀ g (λ c. sum (is c) (entries_in w i)) × (b ≡ widen_all b₀ (entries_in w i))
+-- a test of all the entries
+abbrev pub Pieces : List Entry → List ℕ → Bool → List ℕ → Type 0
+Pieces es g r g' = Tested PIECES (Every Piece es) (λ c. sum (is c) es) g r g'
 
-  pub taken_none : Taken 0 g₀ b₀
-  unfolding entries_in widen_all
-  taken_none = (tt, adds_none PIECES g₀, refl)
+pub pieces_none : (xs : List Entry) (g : List ℕ) → xs ≡ [] → Pieces xs g true g
+pieces_none xs g e = rw e (record { yes = λ _. (tt, adds_none PIECES g); no = λ f _ _. not-both true refl f })
 
-  module _ (i : ℕ) (g g' : List ℕ) (b : Rect) (e : Entry) (r : Bool) (t : Taken i g b) (q : e ≡ entry_in w i) (s : Tested PIECES (Piece e) (λ c. is c e) g r g') where
-    here : Tested PIECES (Piece (entry_in w i)) (λ c. is c (entry_in w i)) g r g'
-    here = subst (λ x. Tested PIECES (Piece x) (λ c. is c x) g r g') q s
-
-    pub taken_more : (b' : Rect) → r ≡ true → b' ≡ widen b e.rect → Taken (i + 1) g' b'
-    taken_more b' u v = (
-      every_more w Piece i t.0 (here.yes u).0,
-      adds-more PIECES g₀ g g' (λ c. sum (is c) (entries_in w i)) (λ c. is c (entry_in w i)) (λ c. sum (is c) (entries_in w (i + 1))) t.1 (here.yes u).1 (λ c. sum_more w (is c) i),
-      widen_more w i b b₀ b' e t.2 q v,
-    )
-
-    pub taken_not : (n : ℕ) → i < n → r ≡ false → LeafTested (entries_in w n) g₀ None g'
-    taken_not n l u = record {
-      tested = record {
-        yes = λ z. absurd (not-both false z refl);
-        no = λ _ ps room. here.no u (every-entry w Piece n i l ps)
-            (room-left PIECES g₀ g (λ c. sum (is c) (entries_in w i)) (λ c. is c (entry_in w i)) (λ c. sum (is c) (entries_in w n)) t.1 (λ c. sum-entry w (is c) n i l) room);
-      };
-      exact = tt;
-    }
-
-  pub taken-all : (i n : ℕ) (g : List ℕ) (b : Rect) → i ≤ n → n ≤ i → Taken i g b → b₀ ≡ (entry_in w 0).rect → LeafTested (entries_in w n) g₀ (Some b) g
-  taken-all i n g b x y t z = subst (λ m. LeafTested (entries_in w m) g₀ (Some b) g) (le_antisymm x y) (record {
-    tested = record { yes = λ _. (t.0, t.1); no = λ u _ _. absurd (not-both true refl u) };
-    exact = λ l. t.2 ∙ (ap (λ r. widen_all r (entries_in w i)) z ∙ widen-done w i (omega (arith, length-entries w i)));
+module _ (e : Entry) (es xs : List Entry) (is_first : xs ≡ e ∷ es) (g g₁ : List ℕ) where
+  pub pieces_stop : Tested PIECES (Piece e) (λ c. is c e) g false g₁ → Pieces xs g false g₁
+  pieces_stop s = subst (λ l. Pieces l g false g₁) (sym is_first) (record {
+    yes = λ t. absurd (not-both false t refl);
+    no = λ _ ps room. s.no refl ps.0 (λ c l. omega (arith, room c l));
   })
+
+  pub pieces_go : (r : Bool) (g' : List ℕ) → Tested PIECES (Piece e) (λ c. is c e) g true g₁ → Pieces es g₁ r g' → Pieces xs g r g'
+  pieces_go r g' s t =
+      let a = s.yes refl in subst (λ l. Pieces l g r g') (sym is_first) (record {
+        yes = λ u. ((a.0, (t.yes u).0), adds-more PIECES g g₁ g' (λ c. is c e) (λ c. sum (is c) es) (λ c. sum (is c) (e ∷ es)) a.1 (t.yes u).1 (λ c. refl));
+        no = λ u ps room. t.no u ps.1 (room-left PIECES g g₁ (λ c. is c e) (λ c. sum (is c) es) (λ c. sum (is c) (e ∷ es)) a.1 (λ c. omega arith) room);
+      })

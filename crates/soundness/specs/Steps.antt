@@ -59,13 +59,13 @@ pub record Tested (n : ℕ) (P : Type 0) (f : ℕ → ℕ) (h : List ℕ) (r : B
 -- of a leaf's entries: with what bounds it is passed
 pub record LeafTested (es : List Entry) (g : List ℕ) (r : Option Rect) (g' : List ℕ) : Type 0 where
   pub tested : Tested PIECES (Every Piece es) (λ c. sum (is c) es) g (is_some r) g'
-  pub exact : IfSome r (λ b. 1 ≤ length es → b ≡ bounds es)
+  pub exact : IfSome r (λ b. b ≡ bounds es)
 
 -- of page p with all that is under it
 pub record Visited (w : List ℕ) (l m p : ℕ) (h g : List ℕ) (r : Option Rect) (h' g' : List ℕ) : Type 0 where
   pub yes : is_some r ≡ true → Tree w l m p × Adds PAGES h h' (visits w l p) × Adds PIECES g g' (stores w l p)
   pub no : is_some r ≡ false → Tree w l m p → Room PAGES h (visits w l p) → Room PIECES g (stores w l p) → ⊥
-  pub exact : IfSome r (λ b. 1 ≤ length (page (table_in w) p).entries → b ≡ bounds (page (table_in w) p).entries)
+  pub exact : IfSome r (λ b. b ≡ bounds (page (table_in w) p).entries)
 
 -- each page below k is marked, and as many piece numbers as word 2 says
 abbrev pub Complete : List ℕ → ℕ → List ℕ → List ℕ → Type 0

@@ -73,21 +73,17 @@ fn take_piece(e: Entry, numbers: &mut [u8; NUMBERS]) -> bool
     e.r < pages::PIECES && e.rect.is_valid() && mark(numbers, e.r as usize)
 }
 
-// The bounds of a leaf's entries, if they pass their tests. Inlined into the walk it would be slower by a tenth, for want of registers.
-#[inline(never)]
+// The bounds of a leaf's entries, if they pass their tests.
 fn leaf(page: &[u32; PAGE_WORDS], n: usize, numbers: &mut [u8; NUMBERS]) -> Option<Rect>
     requires { n ≤ FANOUT }
     ensures { LeafTested (entries_in page.now n) numbers.old result numbers.new }
 {
-    let mut bounds = pages::entry_of(page, 0).rect;
-    for i in 0..n {
-        let e = pages::entry_of(page, i);
+    for e in pages::entries_of(page, n) {
         if !take_piece(e, numbers) {
             return None;
         }
-        bounds = bounds.widened(e.rect);
     }
-    Some(bounds)
+    Some(pages::bounds_of(page, n))
 }
 
 // The tests of a page's level, size and tail.
@@ -117,17 +113,17 @@ impl Walk<'_> {
     // The tests of page p itself: its number, that it was not visited before, and its shape.
     fn enter(&mut self, level: u32, least: u32, p: u32) -> bool
         ensures tested { Tested PAGES (Head self.old.table.now level least p) (λ q. one (eqb p q)) self.old.seen result self.new.seen }
-        ensures same { (self.new.table ≡ self.old.table) × (self.new.numbers ≡ self.old.numbers) }
+        ensures same { (self.new.table.now ≡ self.old.table.now) × (self.new.numbers ≡ self.old.numbers) }
     {
         p < self.k
             && mark(&mut self.seen, p as usize)
             && is_shaped(pages::page_of(self.table, p as usize), level, least)
     }
 
-    // The walk from page p, at a level, to all that is under it: the bounds of its entries, if all is good. Each entry is read one time.
+    // The walk from page p, at a level, to all that is under it: the bounds of its entries, if all is good.
     fn visit(&mut self, level: u32, least: u32, p: u32) -> Option<Rect>
         ensures visited { Visited self.old.table.now level least p self.old.seen self.old.numbers result self.new.seen self.new.numbers }
-        ensures same { self.new.table ≡ self.old.table }
+        ensures same { self.new.table.now ≡ self.old.table.now }
     {
         if !self.enter(level, least, p) {
             return None;
@@ -137,17 +133,14 @@ impl Walk<'_> {
         if level == 0 {
             return leaf(page, n, &mut self.numbers);
         }
-        let mut bounds = pages::entry_of(page, 0).rect;
-        for i in 0..n {
-            let e = pages::entry_of(page, i);
+        for e in pages::entries_of(page, n) {
             let child = self.visit(level - 1, FEWEST, e.r)?;
             // "An entry above the leaves holds exactly the bounding rectangle of its child's entries".
             if e.rect != child {
                 return None;
             }
-            bounds = bounds.widened(e.rect);
         }
-        Some(bounds)
+        Some(pages::bounds_of(page, n))
     }
 
     // Whether each page below k is marked, and as many piece numbers as there are pieces.
@@ -199,6 +192,7 @@ fn is_sound(table: &[u32]) -> bool
 }
 
 /// Whether the table is sound, and then how many pieces it has.
+#[tactic(auto, using(crate::proofs::Answers::answer_short, crate::proofs::Answers::answer_unsound, crate::proofs::Answers::answer_words))]
 pub fn check(table: &[u32]) -> Result<u32, Refusal>
     ensures { checked_of result ≡ check_call table.now }
 {

@@ -1,22 +1,23 @@
--- Before entry i, all entries below i are good, are marked, and have the bounds so far.
-use mathlib.Core.Path.{ap}
-use Rattle.soundness.proofs.Leaves.{taken_none, taken_more, taken_not, taken-all}
+-- Each entry is tested before the others.
+use Rattle.std.proofs.Common.{ap, subst, ◌∙◌}
+use Rattle.pages.specs.Left.{left}
+use Rattle.soundness.proofs.Leaves.{Pieces, pieces_none, pieces_stop, pieces_go}
 use Rattle.soundness.proofs.leaf.Goals as goal
 
-pub loop-i-init : goal.loop-i-init
-loop-i-init c = taken_none c.args.page.now c.args.numbers.now _
+pub loop-e-init : goal.loop-e-init
+loop-e-init c = λ r g. subst (λ es. Pieces es c.args.numbers.now r g) (ap left c.into_iter-e-iterator.ensures.into_iter_gives ∙ c.entries_of-e-items.ensures)
 
 pub returns-then-not-take_piece : goal.returns-then-not-take_piece
-returns-then-not-take_piece c =
-    let l = c.loop-i in
-    taken_not _ _ _ l.i l.numbers _ l.bounds _ _ l.invariant c.entry_of-e.ensures c.take_piece.ensures _ c.loop-i-test.true c.if-not-take_piece.true
+returns-then-not-take_piece c = record {
+  tested = c.loop-e.invariant _ _ (pieces_stop _ _ _ c.in-Some.ensures.steps _ _ c.if-not-take_piece.ensures);
+  exact = tt;
+}
 
-pub loop-i-preserved : goal.loop-i-preserved
-loop-i-preserved c =
-    let l = c.loop-i in
-    taken_more _ _ _ l.i l.numbers _ l.bounds _ _ l.invariant c.entry_of-e.ensures c.take_piece.ensures _ c.if-not-take_piece.false c.widened-bounds.ensures
+pub loop-e-preserved : goal.loop-e-preserved
+loop-e-preserved c = λ r g t. c.loop-e.invariant r g (pieces_go _ _ _ c.in-Some.ensures.steps _ _ r g c.if-not-take_piece.ensures t)
 
 pub returns : goal.returns
-returns c =
-    let l = c.loop-i in
-    taken-all _ _ _ l.i _ l.numbers l.bounds l.auto.i-end c.loop-i-test.false l.invariant (ap (λ e. e.rect) c.entry_of.ensures)
+returns c = record {
+  tested = c.loop-e.invariant _ _ (pieces_none _ _ c.in-None.ensures.steps.0);
+  exact = c.bounds_of.ensures;
+}

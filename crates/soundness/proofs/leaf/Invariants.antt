@@ -1,5 +1,9 @@
-use Rattle.soundness.proofs.Leaves.{Taken}
+use Rattle.std.proofs.Common.{List, ℕ, Bool}
+use Rattle.pages.specs.Readers.{entries_in}
+use Rattle.pages.specs.Left.{left}
+use Rattle.soundness.proofs.Leaves.{Pieces}
 use Rattle.soundness.proofs.leaf.Given as goal
 
-abbrev pub invariant-loop-i : goal.invariant-loop-i
-invariant-loop-i l = Taken l.page l.initial.numbers l.initial.bounds l.i l.numbers l.bounds
+-- what the entries left come to decides of them all
+abbrev pub invariant-loop-e : goal.invariant-loop-e
+invariant-loop-e l = (r : Bool) (g : List ℕ) → Pieces (left l.e-iterator) l.numbers r g → Pieces (entries_in l.page l.n) l.initial.numbers r g

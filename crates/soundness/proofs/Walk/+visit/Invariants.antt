@@ -1,14 +1,17 @@
-use Rattle.std.proofs.Common.{◌≡◌, ◌-◌, ◌≤◌}
-use Rattle.pages.specs.Sizes.{FANOUT}
-use Rattle.soundness.proofs.Walks.{Upto}
+use Rattle.std.proofs.Common.{◌≡◌, ◌-◌, List, ℕ, Bool}
+use Rattle.pages.specs.Readers.{entries_in}
+use Rattle.pages.specs.Left.{left}
+use Rattle.soundness.proofs.Walks.{Below}
 use Rattle.soundness.proofs.Walk.+visit.Given as goal
 
 abbrev pub decreases-visit : goal.decreases-visit
 decreases-visit l = l.level
 
-abbrev pub invariant-loop-i : goal.invariant-loop-i
-invariant-loop-i l = record {
-  fits : l.n ≤ FANOUT;
-  same : l.self.table ≡ l.fn.self.table;
-  upto : Upto l.fn.self.table.now (l.level - 1) l.page l.initial.self.seen l.initial.self.numbers l.initial.bounds l.i l.self.seen l.self.numbers l.bounds;
+-- what the entries left come to decides of them all
+abbrev pub invariant-loop-e : goal.invariant-loop-e
+invariant-loop-e l = record {
+  same : l.self.table.now ≡ l.fn.self.table.now;
+  below : (r : Bool) (h g : List ℕ)
+      → Below l.fn.self.table.now (l.level - 1) (left l.e-iterator) l.self.seen l.self.numbers r h g
+      → Below l.fn.self.table.now (l.level - 1) (entries_in l.page l.n) l.initial.self.seen l.initial.self.numbers r h g;
 }
