@@ -10,11 +10,15 @@ use lib.Dec.{ltb}
 use lib.Seq.{drop-cons, set_at}
 use borrow.Author.Tests.{lt-ltb, le-ltb}
 use Rattle.std.specs.Simd.{first_chunks}
+use Rattle.refusals.specs.declared.Refusal.{Refusal}
+use Rattle.refusals.specs.Numbers.{number_of}
+use Rattle.relations.proofs.Answer.{number-some}
 use Rattle.pages.specs.Sizes.{TABLE_WORDS}
 use Rattle.pages.specs.Refusals.{ACCEPTED, TABLE_TOO_SHORT, ANSWER_TOO_SHORT}
 use Rattle.pages.specs.Layout.{unpack}
 use Rattle.pages.specs.Calls.{empty_call}
 use Rattle.pages.proofs.Round.{length-unpack}
+use Rattle.pages.proofs.Zeros.{empty-accepted}
 use Rattle.placing.specs.Calls.{place_sound, place_call}
 use Rattle.history.specs.Book.{Call, blank, fed}
 use Rattle.history.specs.History.{placed, table_after}
@@ -85,6 +89,10 @@ module _ {first before : List ℕ} {done : List Call} {table answer : List ℕ} 
         ← called,
       ) (sym (append_assoc (refusals_from first done) (r ∷ []) (drop (suc i) before)));
     }
+
+-- a table that holds enough words is emptied
+pub emptied : (w u : List ℕ) (why : Refusal) → TABLE_WORDS ≤ length w → (number_of why, u) ≡ empty_call w → ⊥
+emptied w u why l e = number-some why (ap (λ x. x.0) (e ∙ empty-accepted w l))
 
 -- the three returns
 module _ (table words answer : List ℕ) where

@@ -15,6 +15,7 @@ use refusals::{Refusal, refusal_of};
 pub const CALL_WORDS: usize = 5;
 
 // A place call on a sound table. The marks say which numbers stand in it, so that no leaf is searched.
+#[tactic(auto, using(placing::proofs::Called::call_too_large))]
 fn place_marked(
     table: &mut [u32],
     marks: &mut [bool; NUMBERS],

@@ -3,16 +3,12 @@ use Rattle.std.proofs.Common.{rules}
 use mathlib.Core.Path.{sym, ap, ◌∙◌, subst}
 use lib.Dec.{T}
 use Rattle.pages.specs.Refusals.{ACCEPTED}
-use Rattle.placing.proofs.Called.{call-not-valid, call_too_large, call-stands, call-done}
+use Rattle.placing.proofs.Called.{call-not-valid, call-stands, call-done}
 use Rattle.history.proofs.Marking.{marked-stands, marked-free, marked-placed}
 use Rattle.history.proofs.place_marked.Goals as goal
 
 pub returns-then-not-is_valid-clause-answer : goal.returns-then-not-is_valid-clause-answer
 returns-then-not-is_valid-clause-answer c = call-not-valid _ _ _ (sym c.is_valid.ensures ∙ c.if-not-is_valid.true)
-
-pub returns-then-number-ge-PIECES-clause-answer : goal.returns-then-number-ge-PIECES-clause-answer
-returns-then-number-ge-PIECES-clause-answer c =
-    call_too_large _ _ _ (sym c.is_valid.ensures ∙ c.if-not-is_valid.false) c.if-number-ge-PIECES.true
 
 pub returns-then-marks-number-clause-answer : goal.returns-then-marks-number-clause-answer
 returns-then-marks-number-clause-answer c =

@@ -7,8 +7,11 @@ use Rattle.std.proofs.lemmas.List.{length-map, map_more}
 use Rattle.history.specs.Replay.{call_in, calls_of}
 use Rattle.history.proofs.Reached.{reached-emptied}
 use Rattle.history.proofs.Marking.{marked-none}
-use Rattle.history.proofs.Replaying.{calls-grouped, progress-none, progress-reached, progress-more, replay-done}
+use Rattle.history.proofs.Replaying.{calls-grouped, emptied, progress-none, progress-reached, progress-more, replay-done}
 use Rattle.history.proofs.replay.Goals as goal
+
+pub returns-in_err-empty : goal.returns-in_err-empty
+returns-in_err-empty c = absurd (emptied _ _ _ (omega arith) c.in_err-empty.ensures)
 
 pub loop-i-init : goal.loop-i-init
 loop-i-init c =
