@@ -1,11 +1,6 @@
 -- Each entry is tested before the others.
-use Rattle.std.proofs.Common.{ap, subst, ◌∙◌}
-use Rattle.pages.specs.Left.{left}
-use Rattle.soundness.proofs.Leaves.{Pieces, pieces_none, pieces_stop, pieces_go}
+use Rattle.soundness.proofs.Leaves.{pieces_none, pieces_stop, pieces_go}
 use Rattle.soundness.proofs.leaf.Goals as goal
-
-pub loop-e-init : goal.loop-e-init
-loop-e-init c = λ r g. subst (λ es. Pieces es c.args.numbers.now r g) (ap left c.into_iter-e-iterator.ensures.into_iter_gives ∙ c.entries_of-e-items.ensures)
 
 pub returns-then-not-take_piece : goal.returns-then-not-take_piece
 returns-then-not-take_piece c = record {
