@@ -17,7 +17,7 @@ use Rattle.job.specs.Sizes.{JOB_BYTES, WORD_BYTES, BYTE_VALUES, WORD_VALUES, QUE
 use Rattle.job.specs.Job.{Query, Job, rect_words, piece_words, clause_words, query_words, job_words, little_endian, job_bytes}
 use Rattle.job.specs.Words.{word_at, rect_at, clause_at, clauses_at, piece_count, piece_start, piece_at, pieces_in, query_count, query_start, query_at, queries_in, job_in, well_formed}
 use Rattle.job.specs.Claims.{Words}
-use Rattle.job.proofs.Reading.{rect-is, no-clause, last-clause}
+use Rattle.job.proofs.Reading.{rect-is, no_clause, last-clause}
 use Rattle.job.proofs.Places.{first-start, next_start}
 use Rattle.job.proofs.InOrder.{last-piece, last-query, no-piece, no-query}
 
@@ -166,7 +166,7 @@ module _ (ws : List ℕ) where
         let done = clauses-read cs (s + QUERY_HEAD) 0 (length cs) tail (omega arith) B in (
           query-at s
               ∙ query-is _ _ _ _ (rect-read s s q.reference [] (length cs ∷ rest) A' (omega arith))
-              (ap (clauses_at b (s + QUERY_HEAD)) count ∙ done.0 ∙ ap (λ l. l ++ cs) (no-clause b (s + QUERY_HEAD))),
+              (ap (clauses_at b (s + QUERY_HEAD)) count ∙ done.0 ∙ ap (λ l. l ++ cs) (no_clause b (s + QUERY_HEAD))),
           rw count done.1,
         )
 

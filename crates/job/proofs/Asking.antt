@@ -7,7 +7,7 @@ use native.Mathlib.Omega.{arith}
 use borrow.Author.Tests.{leb-true, leb-false, eq-eqb, ne_eqb}
 use lib.ListN.{length, take, drop, length-append}
 use lib.Dec.{leb, ltb, eqb}
-use lib.Seq.{take-append_seam, take_at}
+use lib.Seq.{take-append_seam}
 use Rattle.relations.specs.Query.{CLAUSES, CLAUSE_COUNT, refusal_of}
 use Rattle.relations.proofs.Answer.{refuse-many}
 use Rattle.pages.specs.declared.Rect.{Rect}
@@ -107,20 +107,9 @@ enough w q b at n k answer e = go (leb n (CLAUSES + 1)) refl
         many_is w q (clauses_at b at k) answer (omega (arith, leb-false n (CLAUSES + 1) h, length-clauses b at k))
         ∙ sym (many_is w q (clauses_at b at n) answer (omega (arith, leb-false n (CLAUSES + 1) h, length-clauses b at n)))
 
--- as the code asks: the part p of the array, before the rest of it, has the clauses that were read
-pub prefix-fits : (n : ℕ) (p rest : List ℕ) → n ≡ length p → n ≤ length (p ++ rest)
-prefix-fits n p rest e = omega (arith, length-append p rest)
-
-pub prefix-length : (n : ℕ) (p rest : List ℕ) → n ≡ length p → n ≡ length (take n (p ++ rest))
-prefix-length n p rest e = e ∙ sym (ap length (take_at p rest n (sym e)))
-
-pub asked-all : (w : List ℕ) (q q' : Rect) (b : List ℕ) (at given n : ℕ) (p rest answer : List ℕ) (x : Answer × List ℕ) → q ≡ q' → n ≡ min given (CLAUSES + 1) → n ≡ length p
-    → p ≡ clauses_at b at n → x ≡ query_sound w q (take n (p ++ rest)) answer → x ≡ query_sound w q' (clauses_at b at given) answer
-asked-all w q q' b at given n p rest answer x eq en el ep ex =
-    ex
-    ∙ ap (λ l. query_sound w q l answer) (take_at p rest n (sym el) ∙ ep)
-    ∙ ap (λ r. query_sound w r (clauses_at b at n) answer) eq
-    ∙ enough w q' b at given n answer en
+pub asked_all : (w : List ℕ) (q q' : Rect) (b : List ℕ) (at given : ℕ) (read answer : List ℕ) → q ≡ q' → read ≡ clauses_at b at (min given (CLAUSES + 1))
+    → query_sound w q read answer ≡ query_sound w q' (clauses_at b at given) answer
+asked_all w q q' b at given read answer eq er = rw (eq, er) (enough w q' b at given (min given (CLAUSES + 1)) answer refl)
 
 -- the two kinds of lines
 module _ (i : ℕ) (a : Answer) (answer : List ℕ) where

@@ -13,9 +13,10 @@ use Rattle.job.specs.Sizes.{WORD_BYTES, BYTE_VALUES, WORD_VALUES, QUERY_HEAD, CL
 use Rattle.job.specs.Job.{rect_words, piece_words, clause_words, query_words, job_words, little_endian, job_bytes}
 use Rattle.job.specs.Words.{word_at, rect_at, clause_at, clauses_at, piece_count, piece_start, piece_at, pieces_in, query_count, query_start, query_at, queries_in, job_in, well_formed}
 use Rattle.job.specs.Claims.{Bytes}
-use Rattle.job.proofs.Reading.{no-clause, last-clause}
+use Rattle.job.proofs.Reading.{no_clause, last-clause}
 use Rattle.job.proofs.Places.{first-start, next_start}
 use Rattle.job.proofs.Asking.{length-clauses}
+use Rattle.pages.proofs.Lists.{T_true}
 use Rattle.job.proofs.Items.{exact}
 use Rattle.query.proofs.Concat.{concat-append}
 use Rattle.job.proofs.InOrder.{last-piece, last-query, no-piece, no-query, length-pieces, length-queries}
@@ -102,7 +103,7 @@ module _ (b : List ℕ) where
     clauses-behind : (s n : ℕ) → words b s ++ concat_map clause_words (clauses_at b s n) ≡ words b (s + CLAUSE_WORDS * n)
     clauses-behind s zero =
         let same : s ≡ s + CLAUSE_WORDS * 0 = omega arith in
-        rw (no-clause b s) (append-nil (words b s) ∙ ap (words b) same)
+        rw (no_clause b s) (append-nil (words b s) ∙ ap (words b) same)
     clauses-behind s (suc n) =
         let next : s + CLAUSE_WORDS * n + CLAUSE_WORDS ≡ s + CLAUSE_WORDS * suc n = omega arith in
         let clause = clause_at b (s + CLAUSE_WORDS * n) in
@@ -197,5 +198,5 @@ module _ (b : List ℕ) where
         let n = query_start b (query_count b) in
         bytes-are
         ∙ ap (concat_map (little_endian WORD_BYTES)) (job-words word-short)
-        ∙ first-bytes n (omega (arith, exact b good))
-        ∙ take_all (WORD_BYTES * n) b (omega (arith, exact b good))
+        ∙ first-bytes n (omega (arith, exact b (T_true (well_formed b) good)))
+        ∙ take_all (WORD_BYTES * n) b (omega (arith, exact b (T_true (well_formed b) good)))

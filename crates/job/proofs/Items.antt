@@ -1,36 +1,31 @@
 -- One piece and one query of a well-formed job: their words lie within it, and what the calls give is what the definitions say.
-use Prim.Native.Nat.{ℕ, zero, suc, ◌+◌, ◌*◌, ◌≤◌, ◌<◌}
-use mathlib.Core.Path.{◌≡◌, refl, sym, ap, ◌∙◌}
-use mathlib.Core.Bool.{cond}
-use mathlib.Core.List.{List, [], ◌∷◌}
+use Prim.Native.Nat.{ℕ, ◌+◌, ◌*◌, ◌≤◌, ◌<◌}
+use mathlib.Core.Path.{◌≡◌, refl, sym, ap, ◌∙◌, subst}
+use mathlib.Core.Bool.{true}
+use mathlib.Core.List.{List}
 use native.Mathlib.Omega.{arith}
 use native.Mathlib.Numerals.{add-one}
-use borrow.Author.Tests.{eq-eqb, ne_eqb}
 use lib.ListN.{length, length-replicate}
 use lib.Dec.{T, leb, eqb, leb→le, eqb→eq}
 use Rattle.pages.specs.declared.Rect.{Rect}
 use Rattle.pages.specs.Sizes.{PIECES}
-use Rattle.pages.specs.Refusals.{ACCEPTED}
 use Rattle.pages.proofs.Lists.{both}
 use Rattle.placing.specs.Calls.{place_sound, place_call}
 use Rattle.query.specs.declared.Answer.{Answer}
 use Rattle.query.specs.Calls.{query_sound, query_call}
 use Rattle.history.specs.Replay.{CALL_WORDS}
-use Rattle.job.specs.declared.Answered.{Answered}
 use Rattle.job.specs.Sizes.{JOB_BYTES, WORD_BYTES, QUERY_HEAD, CLAUSE_COUNT_AT, CLAUSE_WORDS}
-use Rattle.job.specs.Lines.{UNPLACED, line}
 use Rattle.job.specs.Output.{piece_line, query_line, room, answer_of}
 use Rattle.job.specs.Words.{word_at, rect_at, clauses_at, piece_count, piece_start, piece_at, query_count, query_start, query_at, well_formed}
-use Rattle.job.specs.Steps.{table_at, piece_line_at, query_line_at, answer_after, put, piece_placed, query_answered}
+use Rattle.job.specs.Steps.{table_at, piece_line_at, query_line_at, answer_after}
 use Rattle.job.proofs.Places.{first-start, next_start, ends-before, starts-after}
 use Rattle.job.proofs.Tables.{place_is, query-is, fine-table}
 use Rattle.job.proofs.Asking.{same_line}
-use Rattle.job.proofs.Writing.{put-none}
 
-module _ (b : List ℕ) (good : T (well_formed b)) where
+module _ (b : List ℕ) (good : well_formed b ≡ true) where
   parts : T (leb (length b) JOB_BYTES) × T (eqb (length b) (WORD_BYTES * query_start b (query_count b)))
   unfolding well_formed
-  parts = both (leb (length b) JOB_BYTES) (eqb (length b) (WORD_BYTES * query_start b (query_count b))) good
+  parts = both (leb (length b) JOB_BYTES) (eqb (length b) (WORD_BYTES * query_start b (query_count b))) (subst T (sym good) tt)
 
   pub short : length b ≤ JOB_BYTES
   short = leb→le _ _ parts.0
@@ -41,16 +36,8 @@ module _ (b : List ℕ) (good : T (well_formed b)) where
   pub piece-room : (i : ℕ) → i < piece_count b → WORD_BYTES * (piece_start i + CALL_WORDS) ≤ length b
   piece-room i h = omega (arith, exact, first-start b, starts-after b (query_count b))
 
-  pub query-room : (i at : ℕ) → i < query_count b → at ≡ query_start b i → WORD_BYTES * (at + QUERY_HEAD + CLAUSE_WORDS * word_at b (at + CLAUSE_COUNT_AT)) ≤ length b
-  query-room i at h e = rw e (omega (arith, exact, next_start b i, ends-before b i (query_count b) h))
-
-  -- each query has words of its own, so there are few
-  pub query-place : (i : ℕ) → i < query_count b → i < JOB_BYTES
-  query-place i h = omega (arith, short, exact, starts-late (query_count b))
-    where
-      starts-late : (n : ℕ) → n ≤ query_start b n
-      starts-late zero = omega arith
-      starts-late (suc n) = omega (arith, next_start b n, starts-late n)
+  pub query_within : (i at : ℕ) → i < query_count b → at ≡ query_start b i → WORD_BYTES * (at + QUERY_HEAD + CLAUSE_WORDS * word_at b (at + CLAUSE_COUNT_AT)) ≤ length b
+  query_within i at h e = rw e (omega (arith, exact, next_start b i, ends-before b i (query_count b) h))
 
 -- a piece placed, from what the place call returned
 module _ (b : List ℕ) (i : ℕ) (t : List ℕ) (number : ℕ) (rect : Rect) (t' : List ℕ) (r : ℕ)
@@ -59,40 +46,13 @@ module _ (b : List ℕ) (i : ℕ) (t : List ℕ) (number : ℕ) (rect : Rect) (t
   as_called : (r, t') ≡ place_call (table_at b i) (piece_at b i).number (piece_at b i).rect
   as_called = called ∙ rw (et, en, er) (sym (place_is (table_at b i) (fine-table b i) (piece_at b i).number (piece_at b i).rect))
 
-  table_is : t' ≡ table_at b (i + 1)
+  pub table-placed : t' ≡ table_at b (i + 1)
   unfolding table_at
-  table_is = ap (λ x. x.1) as_called ∙ sym (ap (table_at b) (add-one i))
+  table-placed = ap (λ x. x.1) as_called ∙ sym (ap (table_at b) (add-one i))
 
-  line-is : piece_line_at b i ≡ piece_line i r
+  pub piece-placed : piece_line i r ≡ piece_line_at b i
   unfolding piece_line_at
-  line-is = ap (λ x. piece_line i x.0) (sym as_called)
-
-  line-tests : piece_line i r ≡ cond (eqb r ACCEPTED) [] (line UNPLACED (i ∷ r ∷ []))
-  unfolding piece_line
-  line-tests = refl
-
-  placed : (x : ℕ × List ℕ) (out its : List ℕ) → x ≡ put 0 its out → piece_line_at b i ≡ its → (x, t') ≡ piece_placed b i out
-  placed x out its e l = rw (e, l, table_is)
-
-  pub piece-accepted : (out : List ℕ) → r ≡ ACCEPTED → ((0, out), t') ≡ piece_placed b i out
-  piece-accepted out e = placed (0, out) out [] (put-none out 0) (line-is ∙ line-tests ∙ rw (eq-eqb r ACCEPTED e))
-
-  pub piece-refused : (x : ℕ × List ℕ) (out : List ℕ) → (r ≡ ACCEPTED → ⊥) → x ≡ put 0 (line UNPLACED (i ∷ r ∷ [])) out → (x, t') ≡ piece_placed b i out
-  piece-refused x out e l = placed x out (line UNPLACED (i ∷ r ∷ [])) l (line-is ∙ line-tests ∙ rw (ne_eqb r ACCEPTED e))
-
--- the same of an accepted piece: its line is empty, and the table is what the call leaves
-module _ (b : List ℕ) (i : ℕ) where
-  pub accepted_line : (place_sound (table_at b i) (word_at b (piece_start i)) (rect_at b (piece_start i + 1))).0 ≡ ACCEPTED → piece_line_at b i ≡ []
-  accepted_line e =
-      let t : List ℕ = table_at b i in
-      let call : ℕ × List ℕ = place_sound t (word_at b (piece_start i)) (rect_at b (piece_start i + 1)) in
-      line-is b i t _ _ call.1 call.0 refl refl refl refl ∙ line-tests b i t _ _ call.1 call.0 refl refl refl refl ∙ rw (eq-eqb call.0 ACCEPTED e)
-
-  pub table_next : table_at b (i + 1) ≡ (place_sound (table_at b i) (word_at b (piece_start i)) (rect_at b (piece_start i + 1))).1
-  table_next =
-      let t : List ℕ = table_at b i in
-      let call : ℕ × List ℕ = place_sound t (word_at b (piece_start i)) (rect_at b (piece_start i + 1)) in
-      sym (table_is b i t _ _ call.1 call.0 refl refl refl refl)
+  piece-placed = ap (λ x. piece_line i x.0) as_called
 
 -- a query answered, from what the query call returned
 module _ (b : List ℕ) (i at : ℕ) (table answer : List ℕ) (a : Answer) (after : List ℕ)
@@ -122,18 +82,12 @@ module _ (b : List ℕ) (i at : ℕ) (table answer : List ℕ) (a : Answer) (aft
   as-asked : (a, after) ≡ query_sound end reference clauses answer
   as-asked = called ∙ rw (et, ea)
 
-  line_made : query_line i (a, after) ≡ query_line_at b i
-  line_made =
+  pub line-made : query_line i (a, after) ≡ query_line_at b i
+  line-made =
       ap (query_line i) as-asked
       ∙ same_line end reference clauses i answer room (size ∙ sym room-size)
       ∙ ap (query_line i) (sym (query-is end (fine-table b (piece_count b)) reference clauses room))
       ∙ sym line_at
 
-  answer-left : after ≡ answer_after b i answer
+  pub answer-left : after ≡ answer_after b i answer
   answer-left = ap (λ x. x.1) (as-asked ∙ sym (query-is end (fine-table b (piece_count b)) reference clauses answer)) ∙ sym answer_at
-
-  pub query-answered : (r next : ℕ) (out out' : List ℕ) → (r, out') ≡ put 0 (query_line i (a, after)) out → next ≡ query_start b (i + 1)
-      → ◌≡◌ {A = Answered × List ℕ × List ℕ} (record { length = r; next = next }, after, out') (query_answered b i answer out)
-  query-answered r next out out' e n =
-      let written = e ∙ ap (λ l. put 0 l out) line_made in
-      ap (λ x. (record { length = x.0; next = next }, after, x.1)) written ∙ rw (n, answer-left)

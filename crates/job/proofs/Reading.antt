@@ -1,35 +1,38 @@
--- Reading words: rectangles and clauses from their words.
-use Prim.Native.Nat.{ℕ, suc, ◌+◌, ◌*◌, ◌≤◌, ◌<◌}
-use mathlib.Core.Path.{◌≡◌, refl, sym, ap, ◌∙◌}
+-- Reading words: the four bytes of one, a rectangle's from its words, and clauses one by one.
+use Prim.Native.Nat.{ℕ, suc, ◌+◌, ◌-◌, ◌*◌, ◌≤◌, ◌<◌}
+use mathlib.Core.Path.{◌≡◌, refl, ap, ◌∙◌}
 use mathlib.Core.List.{List, [], ◌∷◌, ◌++◌}
 use native.Mathlib.Omega.{arith}
+use native.Mathlib.Nat.{add-zero}
 use native.Mathlib.Numerals.{add-one}
-use lib.ListN.{length, take, set}
-use lib.Seq.{take-suc-set, take_all}
+use lib.ListN.{length, take, drop, get_or}
+use Rattle.std.proofs.lemmas.List.{get_or-take, get_or-drop}
 use Rattle.pages.specs.Rectangles.{rect_of}
-use Rattle.job.specs.Sizes.{CLAUSE_WORDS}
-use Rattle.job.specs.Words.{clause_at, clauses_at}
+use Rattle.job.specs.Sizes.{WORD_BYTES, CLAUSE_WORDS}
+use Rattle.job.specs.Words.{word_at, clause_at, clauses_at}
+
+-- byte k of the first four behind a place
+byte-of : (b : List ℕ) (at k : ℕ) → k < 4 → at + 4 ≤ length b → get_or (take 4 (take (length b - at) (drop at b))) k 0 ≡ get_or b (at + k) 0
+byte-of b at k h l = get_or-take 4 (take (length b - at) (drop at b)) k 0 h ∙ get_or-take (length b - at) (drop at b) k 0 (omega arith) ∙ get_or-drop at b k 0
+
+pub word-of : (b word : List ℕ) (i : ℕ) → WORD_BYTES * (i + 1) ≤ length b → word ≡ take 4 (take (length b - WORD_BYTES * i) (drop (WORD_BYTES * i) b))
+    → get_or word 0 0 + get_or word 1 0 * 256 + get_or word 2 0 * 65_536 + get_or word 3 0 * 16_777_216 ≡ word_at b i
+unfolding word_at
+word-of b word i h e =
+    let at = WORD_BYTES * i in
+    rw e (rw (byte-of b at 0 (omega arith) (omega arith), byte-of b at 1 (omega arith) (omega arith), byte-of b at 2 (omega arith) (omega arith), byte-of b at 3 (omega arith) (omega arith), add-zero at) (omega arith))
 
 pub rect-is : (a b c d a' b' c' d' : ℕ) → a ≡ a' → b ≡ b' → c ≡ c' → d ≡ d' → rect_of a b c d ≡ rect_of a' b' c' d'
 rect-is a b c d a' b' c' d' p q r s = cc
 
-pub no-clauses : (bytes : List ℕ) (at : ℕ) (clauses : List ℕ) → take 0 clauses ≡ clauses_at bytes at 0
-unfolding clauses_at
-no-clauses bytes at clauses = refl
-
-pub more-clauses : (bytes clauses : List ℕ) (at i v : ℕ) → i < length clauses → v ≡ clause_at bytes (at + CLAUSE_WORDS * i) → take i clauses ≡ clauses_at bytes at i
-    → take (i + 1) (set clauses i v) ≡ clauses_at bytes at (i + 1)
-unfolding clauses_at
-more-clauses bytes clauses at i v h e before = rw (add-one, take-suc-set, before, e)
-
-pub all-clauses : (bytes clauses : List ℕ) (at i n : ℕ) → n ≤ i → i ≤ n → length clauses ≡ n → take i clauses ≡ clauses_at bytes at i → clauses ≡ clauses_at bytes at n
-all-clauses bytes clauses at i n h l e got = let same : i ≡ n = omega arith in sym (take_all i clauses (omega arith)) ∙ got ∙ ap (clauses_at bytes at) same
-
 -- what the definition says of no clause, and of one more
-pub no-clause : (bytes : List ℕ) (at : ℕ) → clauses_at bytes at 0 ≡ []
+pub no_clause : (bytes : List ℕ) (at : ℕ) → clauses_at bytes at 0 ≡ []
 unfolding clauses_at
-no-clause bytes at = refl
+no_clause bytes at = refl
 
 pub last-clause : (bytes : List ℕ) (at n : ℕ) → clauses_at bytes at (suc n) ≡ clauses_at bytes at n ++ (clause_at bytes (at + CLAUSE_WORDS * n) ∷ [])
 unfolding clauses_at
 last-clause bytes at n = refl
+
+pub clause_more : (bytes : List ℕ) (at n : ℕ) → clauses_at bytes at (n + 1) ≡ clauses_at bytes at n ++ (clause_at bytes (at + CLAUSE_WORDS * n) ∷ [])
+clause_more bytes at n = ap (clauses_at bytes at) (add-one n) ∙ last-clause bytes at n

@@ -5,4 +5,5 @@ pub mod Lines
 pub mod Output
 pub mod Words
 pub mod Steps
+pub mod Queries
 pub mod Claims

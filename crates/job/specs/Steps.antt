@@ -1,21 +1,11 @@
 -- What the functions over a job's bytes are held to, item by item.
-use Rattle.std.specs.Prelude.{ℕ, zero, suc, ◌+◌, true, false, cond, List, [], ◌++◌, length, take, drop}
+use Rattle.std.specs.Prelude.{ℕ, zero, suc, List, [], ◌++◌}
 use Rattle.pages.specs.Calls.{empty_words}
 use Rattle.placing.specs.Calls.{place_call}
 use Rattle.query.specs.Calls.{query_call}
-use Rattle.job.specs.declared.Shape.{Shape}
-use Rattle.job.specs.declared.Answered.{Answered}
 use Rattle.job.specs.Job.{Query}
 use Rattle.job.specs.Output.{piece_line, query_line, answer_of}
-use Rattle.job.specs.Words.{piece_count, piece_at, query_count, query_start, query_at, well_formed}
-
-abbrev pub no_shape : Shape
-no_shape = record { good = false; pieces = 0; queries = 0; start = 0 }
-
--- how many pieces and queries a well-formed job has, and where its queries begin
-unfoldable pub shape_of : List ℕ → Shape
-unfolding well_formed query_start
-shape_of b = cond (well_formed b) (record { good = true; pieces = piece_count b; queries = query_count b; start = query_start b 0 }) no_shape
+use Rattle.job.specs.Words.{piece_count, piece_at, query_start, query_at}
 
 -- the table after the first i pieces
 unfoldable pub table_at : List ℕ → ℕ → List ℕ
@@ -39,20 +29,6 @@ unfolding query_call table_at query_at query_start
 answer_after b i answer =
     let q : Query = query_at b (query_start b i) in
     (query_call (table_at b (piece_count b)) q.reference q.clauses answer).1
-
--- a text put into a buffer at a place: the place after it, and the buffer, in which no other byte is changed
-abbrev pub put : ℕ → List ℕ → List ℕ → ℕ × List ℕ
-put at text out = (at + length text, take at out ++ (text ++ drop (at + length text) out))
-
--- piece i placed: the length of its line and the buffer that begins with it, and the table
-abbrev pub piece_placed : List ℕ → ℕ → List ℕ → (ℕ × List ℕ) × List ℕ
-piece_placed b i out = (put 0 (piece_line_at b i) out, table_at b (i + 1))
-
--- query i answered: the length of its line and the next query's place, the answer slice, and the buffer that begins with the line
-abbrev pub query_answered : List ℕ → ℕ → List ℕ → List ℕ → Answered × List ℕ × List ℕ
-query_answered b i answer out =
-    let line : ℕ × List ℕ = put 0 (query_line_at b i) out in
-    (record { length = line.0; next = query_start b (i + 1) }, answer_after b i answer, line.1)
 
 -- the lines of the first n items
 abbrev pub lines_to : (ℕ → List ℕ) → ℕ → List ℕ

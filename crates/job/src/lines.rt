@@ -1,90 +1,152 @@
-// Writing lines into a lent buffer.
-ghost use Rattle.std.specs.Prelude.{◌≡◌, [], ◌∷◌, ◌+◌, ◌*◌, ◌≤◌, ◌<◌, length};
-ghost use Rattle.job.specs.Sizes.{FIELD_BYTES, NUMBER_BYTES};
-ghost use Rattle.job.specs.Lines.{DIGIT_ZERO, SPACE, ANSWERED, decimal, fields, line};
-ghost use Rattle.job.specs.Steps.{put};
+// The lines of the output, gathered in memory.
+ghost use Rattle.std.specs.Prelude.{◌≡◌, ◌+◌, ◌≤◌, ◌<◌, [], ◌∷◌, ◌++◌, length};
+ghost use Rattle.pages.specs.Sizes.{PIECES};
+ghost use Rattle.job.specs.Sizes.{LINE_BYTES};
+ghost use Rattle.job.specs.Lines.{SPACE, decimal, fields, line};
+ghost use Rattle.job.specs.Output.{bad_job, piece_line, query_line};
 
-use crate::{ANSWERED, DIGIT_ZERO, NEWLINE, SPACE};
+use arrayvec::ArrayVec;
+use itoa::Buffer;
+use pages::ACCEPTED;
+use query::Answer;
+use std::marker::Model;
 
-fn digit(n: u32) -> u8
-    requires { n < 10 }
-    ensures { result ≡ DIGIT_ZERO + n }
-{
-    DIGIT_ZERO + n as u8
+// No line is longer.
+pub const LINE_BYTES: usize = 8_192;
+
+// The letters that lines begin with.
+const UNPLACED: u8 = b'P';
+
+const ANSWERED: u8 = b'Q';
+
+const REFUSED: u8 = b'R';
+
+/// Lines, one behind the other, of at most `N` bytes.
+#[derive(Drop)]
+pub struct Lines<const N: usize> {
+    bytes: ArrayVec<u8, N>,
 }
 
-// Puts n in decimal at `at`, and gives the place after it.
-fn put_decimal(out: &mut [u8], at: usize, n: u32) -> usize
-    requires { at + length (decimal n) ≤ length out.old }
-    ensures { (result, out.new) ≡ put at (decimal n) out.old }
-{
-    if n < 10 {
-        out[at] = digit(n);
-        return at + 1;
+impl<const N: usize> Model for Lines<N> {
+    ghost use Rattle.std.specs.Prelude.{ℕ, List};
+
+    ghost Value = { List ℕ };
+
+    ghost view = { λ lines. lines.bytes.items };
+}
+
+impl<const N: usize> Lines<N> {
+    pub fn new() -> Self
+        ensures { result ≡ [] }
+    {
+        Lines {
+            bytes: ArrayVec::new(),
+        }
     }
-    let next = put_decimal(out, at, n / 10);
-    out[next] = digit(n % 10);
-    next + 1
-}
 
-// A space and n.
-fn put_field(out: &mut [u8], at: usize, n: u32) -> usize
-    requires { at + 1 + length (decimal n) ≤ length out.old }
-    ensures { (result, out.new) ≡ put at (SPACE ∷ decimal n) out.old }
-{
-    out[at] = SPACE;
-    put_decimal(out, at + 1, n)
-}
-
-fn put_fields(out: &mut [u8], at: usize, numbers: &[u16]) -> usize
-    requires { at + NUMBER_BYTES * length numbers.now ≤ length out.old }
-    ensures most { result ≤ at + NUMBER_BYTES * length numbers.now }
-    ensures bytes { (result, out.new) ≡ put at (fields numbers.now) out.old }
-{
-    let mut next = at;
-    for i in 0..numbers.len() {
-        next = put_field(out, next, numbers[i] as u32);
+    pub fn as_slice(&self) -> &[u8]
+        ensures { result.now ≡ self.now }
+    {
+        self.bytes.as_slice()
     }
-    next
-}
 
-// The letter and the first two fields of a line.
-fn put_head(out: &mut [u8], letter: u8, first: u32, second: u32) -> usize
-    requires { 1 + 2 * FIELD_BYTES ≤ length out.old }
-    ensures most { result ≤ 1 + 2 * FIELD_BYTES }
-    ensures bytes { (result, out.new) ≡ put 0 (letter ∷ fields (first ∷ second ∷ [])) out.old }
-{
-    out[0] = letter;
-    let next = put_field(out, 1, first);
-    put_field(out, next, second)
-}
+    /// How many bytes more fit.
+    pub fn room(&self) -> usize
+        ensures { result + length self.now ≡ N }
+    {
+        self.bytes.remaining_capacity()
+    }
 
-// The line of a refused piece or query.
-pub(crate) fn refused_line(out: &mut [u8], letter: u8, position: u32, refusal: u32) -> usize
-    requires { 2 + 2 * FIELD_BYTES ≤ length out.old }
-    ensures most { result ≤ 2 + 2 * FIELD_BYTES }
-    ensures bytes { (result, out.new) ≡ put 0 (line letter (position ∷ refusal ∷ [])) out.old }
-{
-    let last = put_head(out, letter, position, refusal);
-    out[last] = NEWLINE;
-    last + 1
-}
+    pub fn clear(&mut self)
+        ensures { self.new ≡ [] }
+    {
+        self.bytes.clear();
+    }
 
-// The line of an accepted query.
-pub(crate) fn answered_line(
-    out: &mut [u8],
-    position: u32,
-    hits: u32,
-    opened: u32,
-    numbers: &[u16],
-) -> usize
-    requires { 2 + 3 * FIELD_BYTES + NUMBER_BYTES * length numbers.now ≤ length out.old }
-    ensures most { result ≤ 2 + 3 * FIELD_BYTES + NUMBER_BYTES * length numbers.now }
-    ensures bytes { (result, out.new) ≡ put 0 (line ANSWERED (position ∷ hits ∷ opened ∷ numbers.now)) out.old }
-{
-    let third = put_head(out, ANSWERED, position, hits);
-    let listed = put_field(out, third, opened);
-    let last = put_fields(out, listed, numbers);
-    out[last] = NEWLINE;
-    last + 1
+    fn text(&mut self, text: &[u8])
+        requires { length self.old + length text.now ≤ N }
+        ensures { self.new ≡ self.old ++ text.now }
+    {
+        self.bytes.try_extend_from_slice(text).unwrap();
+    }
+
+    // A space and n.
+    fn field(&mut self, n: u32)
+        requires { length self.old + length (SPACE ∷ decimal n) ≤ N }
+        ensures { self.new ≡ self.old ++ SPACE ∷ decimal n }
+    {
+        self.text(b" ");
+        self.text(Buffer::new().format(n).as_bytes());
+    }
+
+    fn fields(&mut self, numbers: &[u16])
+        requires { length self.old + length (fields numbers.now) ≤ N }
+        ensures { self.new ≡ self.old ++ fields numbers.now }
+    {
+        for n in numbers {
+            self.field(u32::from(*n));
+        }
+    }
+
+    // The line of a refused piece or query.
+    fn refused(&mut self, letter: u8, position: u32, refusal: u32)
+        requires { length self.old + LINE_BYTES ≤ N }
+        ensures most { length self.new ≤ length self.old + LINE_BYTES }
+        ensures bytes { self.new ≡ self.old ++ line letter (position ∷ refusal ∷ []) }
+    {
+        self.text(&[letter]);
+        self.field(position);
+        self.field(refusal);
+        self.text(b"\n");
+    }
+
+    // The line of an accepted query.
+    fn answered(&mut self, position: u32, hits: u32, opened: u32, numbers: &[u16])
+        requires { (length self.old + LINE_BYTES ≤ N) × (length numbers.now ≤ PIECES) }
+        ensures most { length self.new ≤ length self.old + LINE_BYTES }
+        ensures bytes { self.new ≡ self.old ++ line ANSWERED (position ∷ hits ∷ opened ∷ numbers.now) }
+    {
+        self.text(&[ANSWERED]);
+        self.field(position);
+        self.field(hits);
+        self.field(opened);
+        self.fields(numbers);
+        self.text(b"\n");
+    }
+
+    /// All that a bad job prints.
+    #[tactic(auto, unfolding(crate::specs::Output::bad_job))]
+    pub fn bad_job(&mut self)
+        requires { length self.old + LINE_BYTES ≤ N }
+        ensures most { length self.new ≤ length self.old + LINE_BYTES }
+        ensures bytes { self.new ≡ self.old ++ bad_job }
+    {
+        self.text(b"bad job\n");
+    }
+
+    // The line of a piece, if it is refused.
+    #[tactic(auto, unfolding(crate::specs::Output::piece_line))]
+    pub(crate) fn piece(&mut self, position: u32, refusal: u32)
+        requires { length self.old + LINE_BYTES ≤ N }
+        ensures most { length self.new ≤ length self.old + LINE_BYTES }
+        ensures bytes { self.new ≡ self.old ++ piece_line position refusal }
+    {
+        if refusal != ACCEPTED {
+            self.refused(UNPLACED, position, refusal);
+        }
+    }
+
+    // The line of a query.
+    #[tactic(auto, unfolding(crate::specs::Output::query_line))]
+    pub(crate) fn query(&mut self, position: u32, a: Answer, answer: &[u16])
+        requires { (length self.old + LINE_BYTES ≤ N) × (length answer.now ≡ PIECES) × (a.hits ≤ length answer.now) }
+        ensures most { length self.new ≤ length self.old + LINE_BYTES }
+        ensures bytes { self.new ≡ self.old ++ query_line position (a, answer.now) }
+    {
+        if a.refusal != ACCEPTED {
+            self.refused(REFUSED, position, a.refusal);
+        } else {
+            self.answered(position, a.hits, a.opened, &answer[..a.hits as usize]);
+        }
+    }
 }

@@ -1,26 +1,29 @@
 // Reading a job's little-endian words.
-ghost use Rattle.std.specs.Prelude.{◌≡◌, ◌+◌, ◌*◌, ◌≤◌, ◌<◌, length};
-ghost use Rattle.job.specs.Sizes.{WORD_BYTES, BYTE_VALUES, CLAUSE_WORDS};
+ghost use Rattle.std.specs.Prelude.{◌≡◌, ◌+◌, ◌*◌, ◌≤◌, ◌<◌, length, min, MatchOption};
+ghost use Rattle.job.specs.Sizes.{WORD_BYTES, CLAUSE_WORDS};
 ghost use Rattle.job.specs.Words.{word_at, rect_at, clause_at, clauses_at};
 
-use crate::{BYTE_VALUES, CLAUSE_WORDS, WORD_BYTES, WORD_VALUES};
+use crate::{CLAUSE_WORDS, CLAUSES_READ, WORD_BYTES, WORD_VALUES};
+use arrayvec::ArrayVec;
 use pages::Rect;
-
-fn to_word(b: u8) -> u32
-    ensures { (result ≡ b) × (result < BYTE_VALUES) }
-{
-    b as u32
-}
 
 pub(crate) fn word_at(bytes: &[u8], i: usize) -> u32
     requires { WORD_BYTES * (i + 1) ≤ length bytes.now }
     ensures { result ≡ word_at bytes.now i }
 {
     let at = WORD_BYTES * i;
-    to_word(bytes[at])
-        + BYTE_VALUES
-            * (to_word(bytes[at + 1])
-                + BYTE_VALUES * (to_word(bytes[at + 2]) + BYTE_VALUES * to_word(bytes[at + 3])))
+    u32::from_le_bytes(*bytes[at..].first_chunk().unwrap())
+}
+
+// Word `i`, if it lies within the bytes.
+pub(crate) fn checked_word_at(bytes: &[u8], i: usize) -> Option<u32>
+    ensures { MatchOption result (length bytes.now < WORD_BYTES * (i + 1))
+        (λ word. (WORD_BYTES * (i + 1) ≤ length bytes.now) × (word ≡ word_at bytes.now i)) }
+{
+    if bytes.len() / WORD_BYTES <= i {
+        return None;
+    }
+    Some(word_at(bytes, i))
 }
 
 pub(crate) fn rect_at(bytes: &[u8], i: usize) -> Rect
@@ -41,15 +44,18 @@ fn clause_at(bytes: &[u8], i: usize) -> u64
 {
     let low = word_at(bytes, i);
     let high = word_at(bytes, i + 1);
-    low as u64 + WORD_VALUES * (high as u64)
+    u64::from(low) + WORD_VALUES * u64::from(high)
 }
 
-// Fills `clauses` with as many clauses as it has room for, from word `at` on.
-pub(crate) fn read_clauses(bytes: &[u8], at: usize, clauses: &mut [u64])
-    requires { WORD_BYTES * (at + CLAUSE_WORDS * length clauses.old) ≤ length bytes.now }
-    ensures { clauses.new ≡ clauses_at bytes.now at (length clauses.old) }
+// The clauses from word `at` on, of which there are `count`, but one more than a query may have at the most.
+#[tactic(auto, using(crate::proofs::Reading::no_clause, crate::proofs::Reading::clause_more))]
+pub(crate) fn clauses_at(bytes: &[u8], at: usize, count: u32) -> ArrayVec<u64, CLAUSES_READ>
+    requires { WORD_BYTES * (at + CLAUSE_WORDS * count) ≤ length bytes.now }
+    ensures { result.items ≡ clauses_at bytes.now at (min count CLAUSES_READ) }
 {
-    for i in 0..clauses.len() {
-        clauses[i] = clause_at(bytes, at + CLAUSE_WORDS * i);
+    let mut clauses = ArrayVec::new();
+    for i in 0..CLAUSES_READ.min(count as usize) {
+        clauses.push(clause_at(bytes, at + CLAUSE_WORDS * i));
     }
+    clauses
 }

@@ -1,38 +1,37 @@
 -- A line is put behind what is gathered: the buffer keeps its length, the line fits, and what the buffer holds is the end of the text so far.
-use Prim.Native.Nat.{ℕ, zero, suc, ◌+◌, ◌-◌, ◌≤◌, ◌<◌}
+use Prim.Native.Nat.{ℕ, zero, suc, ◌+◌, ◌≤◌, ◌<◌}
 use mathlib.Core.Path.{◌≡◌, refl, sym, ap, ◌∙◌, subst}
 use mathlib.Core.Bool.{Bool, true, false, cond}
 use mathlib.Core.List.{List, [], ◌++◌, append_assoc, append-nil}
-use native.Mathlib.Omega.{arith}
 use native.Mathlib.Numerals.{add-one}
-use borrow.Author.Tests.{le-leb, lt-leb}
-use lib.ListN.{length, take}
-use lib.Seq.{length-take-le, take-append-le, take-append-add}
+use borrow.Author.Tests.{le-leb, lt-leb, leb-true, leb-false}
+use lib.ListN.{length}
 use lib.Dec.{T, leb}
-use borrow.Rule.Slice.PartMut.{mid_of, post_of, put_mid, same_len_mid, mid_len}
-use Rattle.pages.proofs.Lists.{T_true}
-use Rattle.job.specs.Sizes.{LINE_BYTES}
+use Rattle.std.proofs.Common.{◌⊎◌, inl, inr, Some, None, IfSome}
+use Rattle.std.specs.declared.option.Option.{Option}
+use Rattle.std.specs.Io.KnownBytes.{append_known, Appends, Keeps}
+use Rattle.std.proofs.KnownBytes.{Appends-trans, append_known-grown, Keeps-refl}
+use Rattle.job.specs.Sizes.{JOB_BYTES, LINE_BYTES}
 use Rattle.job.specs.Output.{bad_job}
 use Rattle.job.specs.Words.{piece_count, query_count, well_formed, output}
 use Rattle.pages.specs.Calls.{empty_words}
 use Rattle.job.specs.Steps.{table_at, piece_line_at, query_line_at, lines_to}
 use Rattle.job.proofs.Claimed.{claimed}
+use Rattle.job.proofs.Places.{too_long}
 use Rattle.job.proofs.Tables.{first-table}
 use Rattle.job_io.specs.Gathered.{kept, held, held_pieces, held_queries, held_at_end, Gathered}
+use Rattle.job_io.specs.Printed.{Printed}
 
 -- the buffer before the next line
 kept_tests : (size : ℕ) (before : List ℕ) → kept size before ≡ cond (leb (length before + LINE_BYTES) size) before []
 unfolding kept
 kept_tests size before = refl
 
-pub kept_all : (out : List ℕ) (used : ℕ) → used + LINE_BYTES ≤ length out → take used out ≡ kept (length out) (take used out)
-kept_all out used h =
-    sym (kept_tests (length out) (take used out)
-    ∙ ap (λ t. cond t (take used out) []) (le-leb (length (take used out) + LINE_BYTES) (length out) (omega (arith, length-take-le used out (omega arith)))))
+pub kept_all : (size : ℕ) (before : List ℕ) → length before + LINE_BYTES ≤ size → before ≡ kept size before
+kept_all size before h = sym (kept_tests size before ∙ ap (λ t. cond t before []) (le-leb (length before + LINE_BYTES) size h))
 
-pub kept_none : (out : List ℕ) (used : ℕ) → used ≤ length out → length out < used + LINE_BYTES → take 0 out ≡ kept (length out) (take used out)
-kept_none out used h k =
-    sym (kept_tests (length out) (take used out) ∙ ap (λ t. cond t (take used out) []) (lt-leb (length (take used out) + LINE_BYTES) (length out) (omega (arith, length-take-le used out h))))
+pub kept_none : (size : ℕ) (before : List ℕ) → size < length before + LINE_BYTES → [] ≡ kept size before
+kept_none size before h = sym (kept_tests size before ∙ ap (λ t. cond t before []) (lt-leb (length before + LINE_BYTES) size h))
 
 -- what the definitions say of no line, and of one more
 pub no_line : (size : ℕ) (before : List ℕ) (line : ℕ → List ℕ) → held size before line 0 ≡ before
@@ -42,6 +41,9 @@ no_line size before line = refl
 line-more : (size : ℕ) (before : List ℕ) (line : ℕ → List ℕ) (n : ℕ) → held size before line (suc n) ≡ kept size (held size before line n) ++ line n
 unfolding held
 line-more size before line n = refl
+
+pub line_more : (size : ℕ) (before : List ℕ) (line : ℕ → List ℕ) (n : ℕ) → held size before line (n + 1) ≡ kept size (held size before line n) ++ line n
+line_more size before line n = ap (held size before line) (add-one n) ∙ line-more size before line n
 
 pub no_piece : (b : List ℕ) → table_at b 0 ≡ empty_words
 no_piece b = first-table b
@@ -58,33 +60,18 @@ held-tests : (size : ℕ) (b : List ℕ) → held_at_end size b ≡ cond (well_f
 unfolding held_at_end
 held-tests size b = refl
 
-module _ (out : List ℕ) (used : ℕ) (room : used + LINE_BYTES ≤ length out) where
-  pub line-room : LINE_BYTES ≤ length (mid_of used (length out - used) out)
-  line-room = omega (arith, mid_len used (length out) out (omega arith))
+pub ruleset kept_laws = (kept_all, kept_none)
 
-  module _ (size : ℕ) (line : List ℕ) (fits : size ≤ LINE_BYTES) (same : length line ≡ length (mid_of used (length out - used) out)) where
-    put-behind : take (used + size) (put_mid used (length out - used) out line) ≡ take used out ++ take size line
-    put-behind =
-        let rest = line ++ post_of used (length out - used) out in
-        ap (λ k. take (k + size) (take used out ++ rest)) (sym (length-take-le used out (omega arith)))
-        ∙ take-append-add (take used out) rest size
-        ∙ ap (λ l. take used out ++ l) (take-append-le size line (post_of used (length out - used) out) (omega (arith, line-room)))
+pub ruleset piece_laws = (no_line, no_piece, line_more, pieces_held)
 
-    -- the line is the next one, and the buffer was made ready for it
-    pub behind : (whole was i : ℕ) (before : List ℕ) (f : ℕ → List ℕ) → length out ≡ whole → take used out ≡ kept (length out) (take was out)
-        → take was out ≡ held whole before f i → take size line ≡ f i
-        → (used + size ≤ length (put_mid used (length out - used) out line)) × (length (put_mid used (length out - used) out line) ≡ whole)
-        × (take (used + size) (put_mid used (length out - used) out line) ≡ held whole before f (i + 1))
-    behind whole was i before f e ready so put =
-        let back = same_len_mid used (length out - used) out line same in (
-          omega (arith, back),
-          back ∙ e,
-          put-behind
-              ∙ ap (λ l. l ++ take size line) (ready ∙ ap (λ n. kept n (take was out)) e ∙ ap (kept whole) so)
-              ∙ ap (λ l. kept whole (held whole before f i) ++ l) put
-              ∙ sym (line-more whole before f i)
-              ∙ ap (held whole before f) (sym (add-one i)),
-        )
+pub ruleset query_laws = (no_line, line_more, queries_held)
+
+-- one line more for the writer: `before` and `after` are what it got and what is gathered
+pub next-line : (from before mid : Option (List ℕ)) (old new : List ℕ) (f : ℕ → List ℕ) (n : ℕ) → Appends from before (lines_to f n)
+    → Keeps before (append_known mid old) → new ≡ old ++ f n → Appends from (append_known mid new) (lines_to f (n + 1))
+next-line from before mid old new f n so room line =
+    subst (λ k. Appends from (append_known mid new) (lines_to f k)) (sym (add-one n))
+    (Appends-trans from before (append_known mid new) (lines_to f n) (f n) so (append_known-grown before mid old new (f n) room line))
 
 -- what the buffer holds is the end of the text
 kept-gathered : (size : ℕ) (text before : List ℕ) → Gathered text before → Gathered text (kept size before)
@@ -113,10 +100,33 @@ module _ (size : ℕ) (b : List ℕ) where
       record { sent = all.sent; whole = claimed.in_order b good ∙ all.whole ∙ ap (λ l. all.sent ++ l) (sym (queries_held size b)) }
 
   -- what the buffer holds at the end, of a well-formed job and of any other
-  pub good-end : (front : List ℕ) → T (well_formed b) → front ≡ held_queries size b → (front ≡ held_at_end size b) × Gathered (output b) front
+  pub good-end : (front : List ℕ) → well_formed b ≡ true → front ≡ held_queries size b → (front ≡ held_at_end size b) × Gathered (output b) front
   good-end front good e =
-      (e ∙ sym (held-tests size b ∙ ap (λ t. cond t (held_queries size b) bad_job) (T_true (well_formed b) good)), subst (Gathered (output b)) (sym e) (queries-gathered good))
+      (e ∙ sym (held-tests size b ∙ ap (λ t. cond t (held_queries size b) bad_job) good), subst (Gathered (output b)) (sym e) (queries-gathered (subst T (sym good) tt)))
 
   pub bad-end : (front : List ℕ) → well_formed b ≡ false → front ≡ bad_job → (front ≡ held_at_end size b) × Gathered (output b) front
   bad-end front bad e =
       (e ∙ sym (held-tests size b ∙ ap (λ t. cond t (held_queries size b) bad_job) bad), record { sent = []; whole = claimed.bad b bad ∙ sym e })
+
+-- all that is gathered or written in the end is the output
+pub all-good : (b b' : List ℕ) (before between after : Option (List ℕ)) → b ≡ b' → well_formed b ≡ true → Appends before between (lines_to (piece_line_at b) (piece_count b))
+    → Appends between after (lines_to (query_line_at b) (query_count b)) → Appends before after (output b')
+all-good b b' before between after e good pieces queries =
+    subst (Appends before after) (sym (claimed.in_order b (subst T (sym good) tt)) ∙ ap output e)
+    (Appends-trans before between after (lines_to (piece_line_at b) (piece_count b)) (lines_to (query_line_at b) (query_count b)) pieces queries)
+
+pub all-bad : (b : List ℕ) (writer : Option (List ℕ)) (old new : List ℕ) → well_formed b ≡ false → new ≡ old ++ bad_job
+    → Appends (append_known writer old) (append_known writer new) (output b)
+all-bad b writer old new bad e =
+    subst (Appends (append_known writer old) (append_known writer new)) (sym (claimed.bad b bad))
+    (append_known-grown (append_known writer old) writer old new bad_job (Keeps-refl (append_known writer old)) e)
+
+-- the bytes that were read are the input, or as many as no job has
+pub printed : (read : List ℕ) (input old new : Option (List ℕ)) → (length read ≤ JOB_BYTES → IfSome input (λ b. read ≡ b)) → Appends old new (output read)
+    → Printed input old new
+printed read None old new whole all = tt
+printed read (Some b) old new whole all = go (leb (length read) JOB_BYTES) refl
+  where
+    go : (t : Bool) → leb (length read) JOB_BYTES ≡ t → Appends old new (output b) ⊎ Appends old new bad_job
+    go true h = inl (subst (λ l. Appends old new (output l)) (whole (leb-true (length read) JOB_BYTES h)) all)
+    go false h = inr (subst (Appends old new) (claimed.bad read (sym (too_long read (leb-false (length read) JOB_BYTES h)))) all)

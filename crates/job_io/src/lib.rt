@@ -1,15 +1,16 @@
 // Running a job: its bytes read from a reader, its output written to a writer.
 #![tactic(auto)]
 
-ghost use Rattle.std.specs.Prelude.{◌≡◌, ◌+◌, ◌≤◌, length, take, T, IfOk};
-ghost use Rattle.pages.specs.Sizes.{TABLE_WORDS, PIECES};
+ghost use Rattle.std.specs.Prelude.{◌≡◌, ◌+◌, ◌≤◌, ◌<◌, [], length, take, IfSome, OnOk};
+ghost use Rattle.std.specs.Io.KnownBytes.{append_known, Appends, Consumes, Keeps, IsAtEnd};
 ghost use Rattle.pages.specs.Calls.{empty_words};
 ghost use Rattle.job.specs.Sizes.{LINE_BYTES};
-ghost use Rattle.job.specs.Words.{piece_count, query_count, query_start, well_formed, output};
-ghost use Rattle.job.specs.Steps.{table_at};
+ghost use Rattle.job.specs.Words.{piece_count, query_count, output};
+ghost use Rattle.job.specs.Steps.{table_at, piece_line_at, query_line_at, lines_to};
 ghost use Rattle.job_io.specs.Gathered.{kept, held_pieces, held_queries, held_at_end, Gathered};
+ghost use Rattle.job_io.specs.Printed.{Printed};
 
-use job::{JOB_BYTES, LINE_BYTES};
+use job::{JOB_BYTES, Job, LINE_BYTES, Lines};
 use pages::{PIECES, TABLE_WORDS};
 use std::io;
 use std::io::{Read, Write};
@@ -24,19 +25,19 @@ const ANSWER_WORDS: usize = PIECES as usize;
 
 // One read. A failed one counts as one that fills the slice, so that the job is too long.
 fn read_some<R: Read>(from: &mut R, rest: &mut [u8]) -> usize
-    ensures { result ≤ length rest.new }
+    ensures within { result ≤ length rest.new }
+    ensures bytes { result < length rest.new → Consumes (R.remaining from.old) (R.remaining from.new) (take result rest.new) }
+    ensures end { result < length rest.new → result ≡ 0 → IsAtEnd (R.remaining from.new) }
 {
-    match from.read(rest) {
-        Ok(n) => n,
-        Err(_) => rest.len(),
-    }
+    from.read(rest).unwrap_or(rest.len())
 }
 
 // How many bytes there are up to the end of the input, or as many as `bytes` has.
 fn read_all<R: Read>(from: &mut R, bytes: &mut [u8]) -> usize
-    ensures { result ≤ length bytes.new }
+    ensures within { result ≤ length bytes.new }
+    ensures input { result < length bytes.new → IfSome (R.remaining from.old) (λ input. take result bytes.new ≡ input) }
 {
-    let mut n: usize = 0;
+    let mut n = 0;
     while n < bytes.len() {
         let more = read_some(from, &mut bytes[n..]);
         if more == 0 {
@@ -47,116 +48,117 @@ fn read_all<R: Read>(from: &mut R, bytes: &mut [u8]) -> usize
     n
 }
 
-// Writes what is gathered. Nothing else here writes.
-fn flush<W: Write>(to: &mut W, out: &[u8], used: usize) -> io::Result<()>
-    requires { used ≤ length out.now }
-{
-    to.write_all(&out[..used])
+// Lines on their way to a writer.
+#[derive(Drop)]
+struct Output<'a, W> {
+    to: &'a mut W,
+    lines: Lines<BUFFER_BYTES>,
 }
 
-// Writes what is gathered where the next line might not fit behind it, and gives how many bytes of the buffer are used then, as each
-// function below does, unless a write failed.
-#[tactic(auto, using(crate::proofs::Gathered::kept_all, crate::proofs::Gathered::kept_none))]
-fn make_room<W: Write>(to: &mut W, out: &[u8], used: usize) -> io::Result<usize>
-    requires { (used ≤ length out.now) × (LINE_BYTES ≤ length out.now) }
-    ensures room { IfOk result (λ n. n + LINE_BYTES ≤ length out.now) }
-    ensures front { IfOk result (λ n. take n out.now ≡ kept (length out.now) (take used out.now)) }
-{
-    if used <= out.len() - LINE_BYTES {
-        return Ok(used);
+impl<'a, W: Write> Output<'a, W> {
+    fn new(to: &'a mut W) -> Self
+        ensures same_writer { result.to.ghost_name ≡ to.entry.ghost_name }
+        ensures writer { result.to.now ≡ to.old }
+        ensures empty { result.lines ≡ [] }
+    {
+        Output {
+            to,
+            lines: Lines::new(),
+        }
     }
-    flush(to, out, used)?;
-    Ok(0)
+
+    // Writes what is gathered. Nothing else here writes.
+    fn flush(&mut self) -> io::Result<()>
+        ensures same_writer { self.new.to.ghost_name ≡ self.old.to.ghost_name }
+        ensures empty { OnOk result (self.new.lines ≡ []) }
+        ensures written { OnOk result (Appends (W.contents self.old.to.now) (W.contents self.new.to.now) self.old.lines) }
+    {
+        self.to.write_all(self.lines.as_slice())?;
+        self.lines.clear();
+        Ok(())
+    }
+
+    // Writes what is gathered where the next line might not fit behind it.
+    #[tactic(auto, using(crate::proofs::Gathered::kept_laws))]
+    fn make_room(&mut self) -> io::Result<()>
+        ensures same_writer { self.new.to.ghost_name ≡ self.old.to.ghost_name }
+        ensures room { OnOk result (length self.new.lines + LINE_BYTES ≤ BUFFER_BYTES) }
+        ensures front { OnOk result (self.new.lines ≡ kept BUFFER_BYTES self.old.lines) }
+        ensures all { OnOk result (Keeps (append_known (W.contents self.old.to.now) self.old.lines)
+            (append_known (W.contents self.new.to.now) self.new.lines)) }
+    {
+        if self.lines.room() >= LINE_BYTES {
+            return Ok(());
+        }
+        self.flush()
+    }
 }
 
-#[tactic(auto, using(crate::proofs::Gathered::no_line, crate::proofs::Gathered::no_piece, crate::proofs::Gathered::pieces_held))]
-fn place_pieces<W: Write>(
-    to: &mut W,
-    bytes: &[u8],
-    pieces: usize,
-    table: &mut [u32],
-    out: &mut [u8],
-) -> io::Result<usize>
-    requires { T (well_formed bytes.now) × (pieces ≡ piece_count bytes.now) × (table.old ≡ empty_words)
-        × (LINE_BYTES ≤ length out.old) }
-    ensures within { IfOk result (λ used. used ≤ length out.old) }
-    ensures placed { IfOk result (λ used. (table.new ≡ table_at bytes.now (piece_count bytes.now))
-        × (take used out.new ≡ held_pieces (length out.old) bytes.now)) }
+#[tactic(auto, using(crate::proofs::Gathered::piece_laws))]
+fn place_pieces<W: Write>(job: &Job, table: &mut [u32], out: &mut Output<W>) -> io::Result<()>
+    requires { (table.old ≡ empty_words) × (out.old.lines ≡ []) }
+    ensures same_writer { out.new.to.ghost_name ≡ out.old.to.ghost_name }
+    ensures placed { OnOk result (table.new ≡ table_at job.now.bytes.now (piece_count job.now.bytes.now)) }
+    ensures held { OnOk result (out.new.lines ≡ held_pieces BUFFER_BYTES job.now.bytes.now) }
+    ensures all { OnOk result (Appends (append_known (W.contents out.old.to.now) out.old.lines)
+        (append_known (W.contents out.new.to.now) out.new.lines) (lines_to (piece_line_at job.now.bytes.now) (piece_count job.now.bytes.now))) }
 {
-    let mut used: usize = 0;
-    for i in 0..pieces {
-        used = make_room(to, out, used)?;
-        used += job::place_piece(bytes, i, table, &mut out[used..]);
+    for position in 0..job.pieces {
+        out.make_room()?;
+        job.place_piece(position, table, &mut out.lines);
     }
-    Ok(used)
+    Ok(())
 }
 
-#[tactic(auto, using(crate::proofs::Gathered::no_line, crate::proofs::Gathered::queries_held))]
-fn answer_queries<W: Write>(
-    to: &mut W,
-    bytes: &[u8],
-    queries: usize,
-    start: usize,
-    table: &[u32],
-    answer: &mut [u16],
-    out: &mut [u8],
-    gathered: usize,
-) -> io::Result<usize>
-    requires { T (well_formed bytes.now) × (queries ≡ query_count bytes.now) × (start ≡ query_start bytes.now 0)
-        × (table.now ≡ table_at bytes.now (piece_count bytes.now)) × (length answer.old ≡ PIECES) × (LINE_BYTES ≤ length out.old)
-        × (gathered ≤ length out.old) × (take gathered out.old ≡ held_pieces (length out.old) bytes.now) }
-    ensures within { IfOk result (λ used. used ≤ length out.old) }
-    ensures answered { IfOk result (λ used. take used out.new ≡ held_queries (length out.old) bytes.now) }
+#[tactic(auto, using(crate::proofs::Gathered::query_laws))]
+fn answer_queries<W: Write>(job: &Job, table: &[u32], out: &mut Output<W>) -> io::Result<()>
+    requires { (table.now ≡ table_at job.now.bytes.now (piece_count job.now.bytes.now))
+        × (out.old.lines ≡ held_pieces BUFFER_BYTES job.now.bytes.now) }
+    ensures same_writer { out.new.to.ghost_name ≡ out.old.to.ghost_name }
+    ensures held { OnOk result (out.new.lines ≡ held_queries BUFFER_BYTES job.now.bytes.now) }
+    ensures all { OnOk result (Appends (append_known (W.contents out.old.to.now) out.old.lines)
+        (append_known (W.contents out.new.to.now) out.new.lines) (lines_to (query_line_at job.now.bytes.now) (query_count job.now.bytes.now))) }
 {
-    let mut used = gathered;
-    let mut at = start;
-    for i in 0..queries {
-        used = make_room(to, out, used)?;
-        let line = job::answer_query(bytes, i, at, table, answer, &mut out[used..]);
-        used += line.length;
-        at = line.next;
+    let mut answer = [0u16; ANSWER_WORDS];
+    for query in job.queries() {
+        out.make_room()?;
+        query.answer(table, &mut answer, &mut out.lines);
     }
-    Ok(used)
+    Ok(())
 }
 
-// Puts the lines of a job in the buffer, one behind the other. What it holds at the end is still to be written.
-fn answer_job<W: Write>(
-    to: &mut W,
-    bytes: &[u8],
-    table: &mut [u32],
-    answer: &mut [u16],
-    out: &mut [u8],
-) -> io::Result<usize>
-    requires { (length table.old ≡ TABLE_WORDS) × (length answer.old ≡ PIECES) × (LINE_BYTES ≤ length out.old) }
-    ensures within { IfOk result (λ used. used ≤ length out.old) }
-    ensures gathered { IfOk result (λ used. (take used out.new ≡ held_at_end (length out.old) bytes.now)
-        × Gathered (output bytes.now) (take used out.new)) }
+// Gathers the lines of a job, one behind the other. What is gathered at the end is still to be written.
+fn answer_job<W: Write>(bytes: &[u8], out: &mut Output<W>) -> io::Result<()>
+    requires { out.old.lines ≡ [] }
+    ensures same_writer { out.new.to.ghost_name ≡ out.old.to.ghost_name }
+    ensures gathered { OnOk result ((out.new.lines ≡ held_at_end BUFFER_BYTES bytes.now) × Gathered (output bytes.now) out.new.lines) }
+    ensures all { OnOk result (Appends (append_known (W.contents out.old.to.now) out.old.lines)
+        (append_known (W.contents out.new.to.now) out.new.lines) (output bytes.now)) }
 {
-    let shape = job::shape_of(bytes);
-    if !shape.good {
-        return Ok(job::bad_job(out));
-    }
-    job::start(table);
-    let placed = place_pieces(to, bytes, shape.pieces, table, out)?;
-    answer_queries(
-        to,
-        bytes,
-        shape.queries,
-        shape.start,
-        table,
-        answer,
-        out,
-        placed,
-    )
+    let Some(job) = Job::read(bytes) else {
+        out.lines.bad_job();
+        return Ok(());
+    };
+    let mut table = [0u32; TABLE_WORDS];
+    job::start(&mut table);
+    place_pieces(&job, &mut table, out)?;
+    answer_queries(&job, &table, out)
+}
+
+// Writes what a job prints.
+fn print_job<W: Write>(bytes: &[u8], to: &mut W) -> io::Result<()>
+    ensures { OnOk result (Appends (W.contents to.old) (W.contents to.new) (output bytes.now)) }
+{
+    let mut out = Output::new(to);
+    answer_job(bytes, &mut out)?;
+    out.flush()
 }
 
 // Reads a job to its end, and writes what it prints.
-pub fn run<R: Read, W: Write>(from: &mut R, to: &mut W) -> io::Result<()> {
+pub fn run<R: Read, W: Write>(from: &mut R, to: &mut W) -> io::Result<()>
+    ensures { OnOk result (Printed (R.remaining from.old) (W.contents to.old) (W.contents to.new)) }
+{
     let mut bytes = [0u8; READ_BYTES];
-    let mut table = [0u32; TABLE_WORDS];
-    let mut answer = [0u16; ANSWER_WORDS];
-    let mut out = [0u8; BUFFER_BYTES];
     let n = read_all(from, &mut bytes);
-    let used = answer_job(to, &bytes[..n], &mut table, &mut answer, &mut out)?;
-    flush(to, &out, used)
+    print_job(&bytes[..n], to)
 }

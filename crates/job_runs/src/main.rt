@@ -26,23 +26,23 @@ fn run_file<R: Files + Print + Eprint>(rt: &R, path: &[u8]) -> io::Result<()> {
     }
 }
 
-// Whether there is an argument `i`, which is run then. One that is longer than a path counts as empty.
-fn run_argument<R: Env + Files + Print + Eprint>(rt: &R, i: usize) -> io::Result<bool> {
-    let mut path = [0u8; PATH_BYTES];
-    let length = match rt.arg(i, &mut path) {
-        Ok(n) => n,
-        Err(FillError::TooLong) => 0,
-        Err(FillError::NotPresent) => return Ok(false),
-    };
-    run_file(rt, &path[..length])?;
-    Ok(true)
+// Argument `i`, if there is one. One that is longer than a path counts as empty.
+fn argument<'a, R: Env>(rt: &R, i: usize, path: &'a mut [u8]) -> Option<&'a [u8]> {
+    match rt.arg(i, path) {
+        Ok(length) => Some(&path[..length]),
+        Err(FillError::TooLong) => Some(&[]),
+        Err(FillError::NotPresent) => None,
+    }
 }
 
+// std's list of all arguments allocates, so they are asked for one by one.
 fn main(rt: HostRuntime) -> io::Result<()> {
+    let mut path = [0u8; PATH_BYTES];
     for i in 1..usize::MAX {
-        if !run_argument(&rt, i)? {
+        let Some(path) = argument(&rt, i, &mut path) else {
             break;
-        }
+        };
+        run_file(&rt, path)?;
     }
     Ok(())
 }

@@ -1,30 +1,22 @@
--- A good shape gives the counts and the start that the two loops ask for; what the buffer holds in the end follows from theirs.
-use borrow.Author.Tests.{not-true, not-false}
-use mathlib.Core.Path.{◌∙◌, sym, ap}
-use native.Mathlib.Omega.{arith}
-use lib.ListN.{length}
+-- A job gives the lines of its pieces and of its queries, other bytes what a bad job prints.
+use Rattle.std.proofs.Common.{◌∙◌, ◌++◌, sym, ap}
 use Rattle.std.proofs.lemmas.Result.{IfOk-weaker}
 use Rattle.job.specs.Output.{bad_job}
-use Rattle.job.proofs.Places.{shape-good, shape-bad}
-use Rattle.job.proofs.Writing.{front-is}
-use Rattle.job_io.specs.Gathered.{held_pieces, held_queries}
-use Rattle.job_io.proofs.Gathered.{good-end, bad-end}
+use Rattle.job_io.specs.declared.TheConstants.{BUFFER_BYTES}
+use Rattle.job_io.proofs.Gathered.{good-end, bad-end, all-good, all-bad}
 use Rattle.job_io.proofs.answer_job.Goals as goal
 
-pub returns-then-not-shape-clause-gathered : goal.returns-then-not-shape-clause-gathered
-returns-then-not-shape-clause-gathered g c = let b = c.args.bytes.now in let s = c.shape_of-shape in
-    bad-end (length c.args.out.now) b _ (shape-bad b s.result s.ensures (not-true _ c.if-not-shape.true)) (front-is bad_job _ c.bad_job.ensures.bytes)
+pub returns-in_default-clause-gathered : goal.returns-in_default-clause-gathered
+returns-in_default-clause-gathered g c =
+    bad-end BUFFER_BYTES c.args.bytes.now c.bad_job.new.self (sym c.in_default.ensures.some) (c.bad_job.ensures.bytes ∙ ap (λ l. l ++ bad_job) c.requires)
 
-pub place_pieces-requires : goal.place_pieces-requires
-place_pieces-requires g c = let s = c.shape_of-shape in let good = shape-good c.args.bytes.now s.result s.ensures (not-false _ c.if-not-shape.false) in
-    (good.0, good.1, c.start.ensures, c.requires.2)
-
-pub answer_queries-requires : goal.answer_queries-requires
-answer_queries-requires g c = let b = c.args.bytes.now in let s = c.shape_of-shape in let good = shape-good b s.result s.ensures (not-false _ c.if-not-shape.false) in
-    let placed = c.in_ok-placed.ensures in let same = c.place_pieces.auto.out in
-    (good.0, good.2, good.3, placed.placed.0, c.requires.1, omega (arith, same, c.requires.2), omega (arith, same, placed.within), placed.placed.1 ∙ ap (λ n. held_pieces n b) (sym same))
+pub returns-in_default-clause-all : goal.returns-in_default-clause-all
+returns-in_default-clause-all g c = all-bad c.args.bytes.now _ _ _ (sym c.in_default.ensures.some) c.bad_job.ensures.bytes
 
 pub returns-clause-gathered : goal.returns-clause-gathered
-returns-clause-gathered g c = let b = c.args.bytes.now in let s = c.shape_of-shape in let good = shape-good b s.result s.ensures (not-false _ c.if-not-shape.false) in
-    let asked = c.answer_queries in
-    IfOk-weaker asked.result _ _ (λ used h. good-end (length c.args.out.now) b _ good.0 (h ∙ ap (λ n. held_queries n b) c.place_pieces.auto.out)) asked.ensures.answered
+returns-clause-gathered g c = let job = c.in-Some.job in
+    IfOk-weaker c.answer_queries.result _ _ (λ _ h. rw c.in-Some.ensures.same at (good-end BUFFER_BYTES job.bytes.now c.answer_queries.new.out.lines job.whole h)) c.answer_queries.ensures.held
+
+pub returns-clause-all : goal.returns-clause-all
+returns-clause-all g c = let job = c.in-Some.job in
+    IfOk-weaker c.answer_queries.result _ _ (λ _ h. all-good job.bytes.now c.args.bytes.now _ _ _ c.in-Some.ensures.same job.whole c.in_ok-place_pieces.ensures.all h) c.answer_queries.ensures.all

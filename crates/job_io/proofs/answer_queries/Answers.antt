@@ -1,14 +1,28 @@
--- Each turn puts one line more in the buffer.
-use mathlib.Core.Path.{◌∙◌, ap}
-use lib.ListN.{length}
-use Rattle.job.specs.Steps.{query_line_at}
-use Rattle.job.proofs.Writing.{front-is}
-use Rattle.job_io.specs.Gathered.{held_pieces}
-use Rattle.job_io.proofs.Gathered.{behind}
+-- Each turn puts one line more in the buffer, behind what was kept.
+use Rattle.std.proofs.Common.{◌∙◌, refl, ap}
+use Rattle.std.proofs.KnownBytes.{Appends-nil}
+use Rattle.job.specs.declared.queries.Queries.{Queries}
+use Rattle.job_io.proofs.Gathered.{no_line, line_more, next-line}
 use Rattle.job_io.proofs.answer_queries.Goals as goal
 
-pub loop-i-preserved : goal.loop-i-preserved
-loop-i-preserved g c = let at = c.loop-i in let b = c.args.bytes.now in let size = length c.args.out.now in let room = c.in_ok-used in let call = c.answer_query-line in
-    let put = behind at.out room.used room.ensures.room call.result.length call.new.out call.ensures.most call.auto.out
-    size at.used at.i (held_pieces size b) (query_line_at b) at.invariant.1 room.ensures.front at.invariant.4 (front-is (query_line_at b at.i) _ (ap (λ x. (x.0.length, x.2)) call.ensures.answered)) in
-    (put.0, put.1, call.auto.answer ∙ at.invariant.2, ap (λ x. x.0.next) call.ensures.answered, put.2)
+pub loop-query-init : goal.loop-query-init
+loop-query-init g c =
+    let same = c.into_iter-query-iterator.ensures.into_iter_gives in
+    let first = ap (λ (s : Queries). s.next) same ∙ c.queries-query-items.ensures.first in
+    let bytes = ap (λ (s : Queries). s.job.bytes.now) same ∙ c.queries-query-items.ensures.same in
+    (tt, tt, bytes, refl, refl, c.requires.1 ∙ rw (first, no_line) refl, rw first (Appends-nil _))
+
+pub loop-query-preserved : goal.loop-query-preserved
+loop-query-preserved g c =
+    let turn = c.loop-query in
+    let room = c.in_ok-make_room.ensures in
+    let step = c.in-Some.ensures.steps in
+    let line = c.answer.ensures.line ∙ rw (step.0, turn.invariant.2, step.1) refl in (
+      tt,
+      tt,
+      step.2 ∙ turn.invariant.2,
+      c.answer.auto.answer ∙ turn.invariant.3,
+      room.same_writer ∙ turn.invariant.4,
+      rw step.3 (line ∙ rw (room.front, turn.invariant.5, line_more) refl),
+      rw step.3 (next-line _ _ _ _ _ _ turn.query-iterator.next turn.invariant.6 room.all line),
+    )

@@ -1,14 +1,17 @@
--- Each turn puts one line more in the buffer.
-use mathlib.Core.Path.{ap}
-use mathlib.Core.List.{[]}
-use lib.ListN.{length}
-use Rattle.job.specs.Steps.{piece_line_at}
-use Rattle.job.proofs.Writing.{front-is}
-use Rattle.job_io.proofs.Gathered.{behind}
+-- Each turn puts one line more in the buffer, behind what was kept.
+use Rattle.std.proofs.Common.{rules, ◌∙◌, refl}
+use Rattle.std.proofs.KnownBytes.{Appends-nil}
+use Rattle.job_io.proofs.Gathered.{no_line, no_piece, line_more, next-line}
 use Rattle.job_io.proofs.place_pieces.Goals as goal
 
-pub loop-i-preserved : goal.loop-i-preserved
-loop-i-preserved g c = let at = c.loop-i in let b = c.args.bytes.now in let room = c.in_ok-used in let call = c.place_piece-used in
-    let put = behind at.out room.used room.ensures.room call.result call.new.out call.ensures.most call.auto.out
-    (length c.args.out.now) at.used at.i [] (piece_line_at b) at.invariant.1 room.ensures.front at.invariant.3 (front-is (piece_line_at b at.i) _ (ap (λ x. x.0) call.ensures.placed)) in
-    (put.0, put.1, ap (λ x. x.1) call.ensures.placed, put.2)
+pub loop-position-init : goal.loop-position-init
+loop-position-init g c = (refl, search (rules, no_piece), search (rules, no_line), Appends-nil _)
+
+pub loop-position-preserved : goal.loop-position-preserved
+loop-position-preserved g c =
+    let turn = c.loop-position in let room = c.in_ok-make_room.ensures in (
+      room.same_writer ∙ turn.invariant.0,
+      c.place_piece.ensures.table,
+      c.place_piece.ensures.line ∙ rw (room.front, turn.invariant.2, line_more) refl,
+      next-line _ _ _ _ _ _ turn.position turn.invariant.3 room.all c.place_piece.ensures.line,
+    )

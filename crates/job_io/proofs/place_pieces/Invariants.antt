@@ -1,10 +1,15 @@
--- The table before turn i is the one after i pieces, and the buffer holds what it should after as many lines.
-use Rattle.std.specs.Prelude.{◌≤◌, ◌≡◌, [], length, take}
-use Rattle.job.specs.Steps.{table_at, piece_line_at}
+-- The table before a turn is the one after the pieces so far, the buffer holds what it should after as many lines, and none is lost.
+use Rattle.std.proofs.Common.{◌≡◌, []}
+use Rattle.std.specs.Io.KnownBytes.{append_known, Appends}
+use Rattle.job.specs.Steps.{table_at, piece_line_at, lines_to}
+use Rattle.job_io.specs.declared.TheConstants.{BUFFER_BYTES}
 use Rattle.job_io.specs.Gathered.{held}
 use Rattle.job_io.proofs.place_pieces.Given as goal
 
-abbrev pub invariant-loop-i : goal.invariant-loop-i
-invariant-loop-i g l =
-    (l.used ≤ length l.out) × (length l.out ≡ length l.initial.out) × (l.table ≡ table_at l.bytes l.i)
-    × (take l.used l.out ≡ held (length l.initial.out) [] (piece_line_at l.bytes) l.i)
+abbrev pub invariant-loop-position : goal.invariant-loop-position
+invariant-loop-position g l =
+    let b = l.job.bytes.now in
+    (l.out.to.ghost_name ≡ l.initial.out.to.ghost_name) × (l.table ≡ table_at b l.position)
+    × (l.out.lines ≡ held BUFFER_BYTES [] (piece_line_at b) l.position)
+    × Appends (append_known (g.W.Write.contents l.initial.out.to.now) l.initial.out.lines) (append_known (g.W.Write.contents l.out.to.now) l.out.lines)
+    (lines_to (piece_line_at b) l.position)

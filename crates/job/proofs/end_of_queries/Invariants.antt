@@ -1,0 +1,6 @@
+use Rattle.std.proofs.Common.{◌≡◌, ◌<◌, ◌^◌}
+use Rattle.job.specs.Words.{query_start}
+use Rattle.job.proofs.end_of_queries.Given as goal
+
+abbrev pub invariant-loop : goal.invariant-loop
+invariant-loop l = (l.at ≡ query_start l.bytes l.counter) × (l.at < 2 ^ 34)
