@@ -111,18 +111,5 @@ pub asked_all : (w : List ℕ) (q q' : Rect) (b : List ℕ) (at given : ℕ) (re
     → query_sound w q read answer ≡ query_sound w q' (clauses_at b at given) answer
 asked_all w q q' b at given read answer eq er = rw (eq, er) (enough w q' b at given (min given (CLAUSES + 1)) answer refl)
 
--- the two kinds of lines
-module _ (i : ℕ) (a : Answer) (answer : List ℕ) where
-  line-tests : query_line i (a, answer)
-      ≡ cond (eqb a.refusal ACCEPTED) (line ANSWERED (i ∷ a.hits ∷ a.opened ∷ take a.hits answer)) (line REFUSED (i ∷ a.refusal ∷ []))
-  unfolding query_line
-  line-tests = refl
-
-  pub line_refused : (a.refusal ≡ ACCEPTED → ⊥) → line REFUSED (i ∷ a.refusal ∷ []) ≡ query_line i (a, answer)
-  line_refused e = sym (line-tests ∙ rw (ne_eqb a.refusal ACCEPTED e))
-
-  pub line-accepted : a.refusal ≡ ACCEPTED → line ANSWERED (i ∷ a.hits ∷ a.opened ∷ take a.hits answer) ≡ query_line i (a, answer)
-  line-accepted e = sym (line-tests ∙ rw (eq-eqb a.refusal ACCEPTED e))
-
 pub hits-of : (w : List ℕ) (q : Rect) (clauses answer : List ℕ) (a : Answer) (after : List ℕ) → (a, after) ≡ query_sound w q clauses answer → a.hits ≤ length after
 hits-of w q clauses answer a after e = subst (λ x. x.0.hits ≤ length x.1) (sym e) (hits-within w q clauses answer)

@@ -5,6 +5,10 @@ use mathlib.Core.List.{List, [], append-nil}
 use native.Mathlib.Omega.{arith}
 use lib.ListN.{length, drop_of_length-le}
 use lib.Dec.{T}
+use Rattle.std.proofs.Common.{Result, Ok, Err, IsOk}
+use Rattle.refusals.specs.declared.Refusal.{Refusal}
+use Rattle.refusals.specs.Numbers.{refusal_of}
+use Rattle.relations.proofs.Answer.{number-some}
 use Rattle.pages.specs.declared.Rect.{Rect}
 use Rattle.pages.specs.Sizes.{TABLE_WORDS}
 use Rattle.pages.specs.Sound.{sound}
@@ -56,6 +60,10 @@ fine_of t b i e = rw e (fine-table b i)
 -- the table before the first piece
 pub emptied : (w t : List ℕ) (r : ℕ) → length w ≡ TABLE_WORDS → (r, t) ≡ empty_call w → t ≡ empty_words
 emptied w t r size e = ap (λ x. x.1) (e ∙ empty-accepted w (omega arith)) ∙ rw (drop_of_length-le w {i = TABLE_WORDS} (omega arith), append-nil)
+
+pub emptied-ok : (w t : List ℕ) (r : Result (Unit {0}) Refusal) → length w ≡ TABLE_WORDS → (refusal_of r, t) ≡ empty_call w → IsOk r
+emptied-ok w t (Ok _) size e = refl
+emptied-ok w t (Err why) size e = absurd (number-some why (ap (λ x. x.0) (e ∙ empty-accepted w (omega arith))))
 
 pub first-table : (b : List ℕ) → table_at b 0 ≡ empty_words
 unfolding table_at

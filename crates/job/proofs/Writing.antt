@@ -8,7 +8,7 @@ use lib.ListN.{length, take, drop, get_or, length-append, take-append-drop}
 use lib.Seq.{take-suc}
 use Rattle.job.specs.Sizes.{NUMBER_BYTES}
 use Rattle.job.specs.Lines.{SPACE, NEWLINE, decimal, fields, line}
-use Rattle.job.proofs.Decimal.{short_decimal}
+use Rattle.job.proofs.Decimal.{number_short}
 
 pub no_fields : fields [] ≡ []
 unfolding fields
@@ -79,4 +79,4 @@ answered_behind s letter p h o ns =
 -- the fields of 16-bit numbers are short
 pub fields_short : (ns : List ℕ) → ((i : ℕ) → get_or ns i 0 < 65_536) → length (fields ns) ≤ NUMBER_BYTES * length ns
 fields_short [] h = rw no_fields (omega arith)
-fields_short (n ∷ ns) h = rw (first_field n ns, length-append) (omega (arith, short_decimal n (h 0), fields_short ns (λ i. h (suc i))))
+fields_short (n ∷ ns) h = rw (first_field n ns, length-append) (omega (arith, number_short n (h 0), fields_short ns (λ i. h (suc i))))

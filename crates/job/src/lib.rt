@@ -106,8 +106,8 @@ impl<'a> Job<'a> {
         let at = 1 + CALL_WORDS * position as usize;
         let number = word_at(self.bytes, at);
         let rect = rect_at(self.bytes, at + 1);
-        let refusal = placing::place_sound(table, number, rect);
-        lines.piece(position, refusal);
+        let placed = placing::place_sound(table, number, rect);
+        lines.piece(position, placed);
     }
 }
 
@@ -116,5 +116,5 @@ pub fn start(table: &mut [u32])
     requires { length table.old ≡ TABLE_WORDS }
     ensures { table.new ≡ empty_words }
 {
-    pages::empty(table);
+    pages::empty(table).unwrap();
 }

@@ -1,14 +1,16 @@
 // The lines of the output, gathered in memory.
 ghost use Rattle.std.specs.Prelude.{◌≡◌, ◌+◌, ◌≤◌, ◌<◌, [], ◌∷◌, ◌++◌, length};
+ghost use Rattle.refusals.specs.Numbers.{refusal_of};
 ghost use Rattle.pages.specs.Sizes.{PIECES};
+ghost use Rattle.query.specs.Calls.{answer_of};
 ghost use Rattle.job.specs.Sizes.{LINE_BYTES};
 ghost use Rattle.job.specs.Lines.{SPACE, decimal, fields, line};
 ghost use Rattle.job.specs.Output.{bad_job, piece_line, query_line};
 
 use arrayvec::ArrayVec;
 use itoa::Buffer;
-use pages::ACCEPTED;
-use query::Answer;
+use query::Found;
+use refusals::Refusal;
 use std::marker::Model;
 
 // No line is longer.
@@ -101,15 +103,15 @@ impl<const N: usize> Lines<N> {
     }
 
     // The line of an accepted query.
-    fn answered(&mut self, position: u32, hits: u32, opened: u32, numbers: &[u16])
+    fn answered(&mut self, position: u32, found: Found, numbers: &[u16])
         requires { (length self.old + LINE_BYTES ≤ N) × (length numbers.now ≤ PIECES) }
         ensures most { length self.new ≤ length self.old + LINE_BYTES }
-        ensures bytes { self.new ≡ self.old ++ line ANSWERED (position ∷ hits ∷ opened ∷ numbers.now) }
+        ensures bytes { self.new ≡ self.old ++ line ANSWERED (position ∷ found.hits ∷ found.opened ∷ numbers.now) }
     {
         self.text(&[ANSWERED]);
         self.field(position);
-        self.field(hits);
-        self.field(opened);
+        self.field(found.hits);
+        self.field(found.opened);
         self.fields(numbers);
         self.text(b"\n");
     }
@@ -126,27 +128,26 @@ impl<const N: usize> Lines<N> {
 
     // The line of a piece, if it is refused.
     #[tactic(auto, unfolding(crate::specs::Output::piece_line))]
-    pub(crate) fn piece(&mut self, position: u32, refusal: u32)
+    pub(crate) fn piece(&mut self, position: u32, placed: Result<(), Refusal>)
         requires { length self.old + LINE_BYTES ≤ N }
         ensures most { length self.new ≤ length self.old + LINE_BYTES }
-        ensures bytes { self.new ≡ self.old ++ piece_line position refusal }
+        ensures bytes { self.new ≡ self.old ++ piece_line position (refusal_of placed) }
     {
-        if refusal != ACCEPTED {
-            self.refused(UNPLACED, position, refusal);
+        if let Err(refusal) = placed {
+            self.refused(UNPLACED, position, refusal.number());
         }
     }
 
     // The line of a query.
     #[tactic(auto, unfolding(crate::specs::Output::query_line))]
-    pub(crate) fn query(&mut self, position: u32, a: Answer, answer: &[u16])
-        requires { (length self.old + LINE_BYTES ≤ N) × (length answer.now ≡ PIECES) × (a.hits ≤ length answer.now) }
+    pub(crate) fn query(&mut self, position: u32, found: Result<Found, Refusal>, answer: &[u16])
+        requires { (length self.old + LINE_BYTES ≤ N) × (length answer.now ≡ PIECES) × ((answer_of found).hits ≤ length answer.now) }
         ensures most { length self.new ≤ length self.old + LINE_BYTES }
-        ensures bytes { self.new ≡ self.old ++ query_line position (a, answer.now) }
+        ensures bytes { self.new ≡ self.old ++ query_line position (answer_of found, answer.now) }
     {
-        if a.refusal != ACCEPTED {
-            self.refused(REFUSED, position, a.refusal);
-        } else {
-            self.answered(position, a.hits, a.opened, &answer[..a.hits as usize]);
+        match found {
+            Ok(found) => self.answered(position, found, &answer[..found.hits as usize]),
+            Err(refusal) => self.refused(REFUSED, position, refusal.number()),
         }
     }
 }

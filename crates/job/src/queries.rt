@@ -3,14 +3,15 @@ ghost use Rattle.std.specs.Prelude.{◌≡◌, ◌+◌, ◌*◌, ◌-◌, ◌≤
 ghost use Rattle.std.specs.Iterator.{at_most};
 ghost use Rattle.pages.specs.Sizes.{TABLE_WORDS, PIECES};
 ghost use Rattle.pages.specs.Sound.{sound};
-ghost use Rattle.query.specs.Calls.{query_sound};
+ghost use Rattle.query.specs.Calls.{answer_of, query_sound};
 ghost use Rattle.job.specs.Sizes.{WORD_BYTES, QUERY_HEAD, CLAUSE_COUNT_AT, CLAUSE_WORDS, LINE_BYTES};
 ghost use Rattle.job.specs.Words.{word_at, rect_at, clauses_at, piece_count, query_start};
 ghost use Rattle.job.specs.Steps.{table_at, query_line_at, answer_after};
 
 use crate::words::{clauses_at, rect_at, word_at};
 use crate::{CLAUSE_COUNT_AT, CLAUSE_WORDS, Job, Lines, QUERY_HEAD};
-use query::Answer;
+use query::Found;
+use refusals::Refusal;
 
 /// A query of a job: its position, and the word at which it begins.
 #[derive(Clone, Copy)]
@@ -87,9 +88,9 @@ impl Query<'_> {
         self.start + QUERY_HEAD + CLAUSE_WORDS * self.clause_count() as usize
     }
 
-    fn ask(&self, table: &[u32], answer: &mut [u16]) -> Answer
+    fn ask(&self, table: &[u32], answer: &mut [u16]) -> Result<Found, Refusal>
         requires { (TABLE_WORDS ≤ length table.now) × T (sound table.now) }
-        ensures { let b = self.now.job.bytes.now in (result, answer.new) ≡ query_sound table.now (rect_at b self.now.start)
+        ensures { let b = self.now.job.bytes.now in (answer_of result, answer.new) ≡ query_sound table.now (rect_at b self.now.start)
             (clauses_at b (self.now.start + QUERY_HEAD) (word_at b (self.now.start + CLAUSE_COUNT_AT))) answer.old }
     {
         let bytes = self.job.bytes;
@@ -110,7 +111,7 @@ impl Query<'_> {
         ensures line { lines.new ≡ lines.old ++ query_line_at self.now.job.bytes.now self.now.position }
         ensures answer { answer.new ≡ answer_after self.now.job.bytes.now self.now.position answer.old }
     {
-        let asked = self.ask(table, answer);
-        lines.query(self.position, asked, answer);
+        let found = self.ask(table, answer);
+        lines.query(self.position, found, answer);
     }
 }

@@ -30,12 +30,12 @@ pub(crate) fn rect_at(bytes: &[u8], i: usize) -> Rect
     requires { WORD_BYTES * (i + 4) ≤ length bytes.now }
     ensures { result ≡ rect_at bytes.now i }
 {
-    Rect {
-        x1: word_at(bytes, i),
-        y1: word_at(bytes, i + 1),
-        x2: word_at(bytes, i + 2),
-        y2: word_at(bytes, i + 3),
-    }
+    Rect::from([
+        word_at(bytes, i),
+        word_at(bytes, i + 1),
+        word_at(bytes, i + 2),
+        word_at(bytes, i + 3),
+    ])
 }
 
 fn clause_at(bytes: &[u8], i: usize) -> u64

@@ -1,5 +1,5 @@
 -- Bytes that fill the slice are too many for a job; fewer are the input.
-use Rattle.std.proofs.Common.{arith, ap, sym, ◌∙◌, take, length, length-take-le, subst, IfSome}
+use Rattle.std.proofs.Common.{arith, take, length-take-le}
 use Rattle.std.proofs.lemmas.Result.{IfOk-weaker}
 use Rattle.job_io.proofs.Gathered.{printed}
 use Rattle.job_io.proofs.run.Goals as goal

@@ -5,17 +5,17 @@ use Rattle.job.proofs.Asking.{hits-of}
 use Rattle.job.proofs.Items.{line-made, answer-left}
 use Rattle.job.proofs.queries.Query.answer.Goals as goal
 
-pub ask-asked-requires : goal.ask-asked-requires
-ask-asked-requires g c = let F = fine_of c.args.table.now c.args.self.now.job.bytes.now _ c.requires.0 in (omega (arith, F.size), F.sound)
+pub ask-found-requires : goal.ask-found-requires
+ask-found-requires g c = let F = fine_of c.args.table.now c.args.self.now.job.bytes.now _ c.requires.0 in (omega (arith, F.size), F.sound)
 
 pub query-requires : goal.query-requires
-query-requires g c = (search rules, (c.requires.2, c.ask-asked.auto.answer ∙ c.requires.1, hits-of _ _ _ _ _ _ c.ask-asked.ensures))
+query-requires g c = (search rules, (c.requires.2, c.ask-found.auto.answer ∙ c.requires.1, hits-of _ _ _ _ _ _ c.ask-found.ensures))
 
 pub returns-clause-line : goal.returns-clause-line
 returns-clause-line g c = let query = c.args.self.now in
     c.query.ensures.bytes
-    ∙ ap (λ l. c.args.lines.now ++ l) (line-made query.job.bytes.now query.position query.start c.args.table.now c.args.answer.now _ _ c.requires.0 query.begins c.requires.1 c.ask-asked.ensures)
+    ∙ ap (λ l. c.args.lines.now ++ l) (line-made query.job.bytes.now query.position query.start c.args.table.now c.args.answer.now _ _ c.requires.0 query.begins c.requires.1 c.ask-found.ensures)
 
 pub returns-clause-answer : goal.returns-clause-answer
 returns-clause-answer g c = let query = c.args.self.now in
-    answer-left query.job.bytes.now query.position query.start c.args.table.now c.args.answer.now _ _ c.requires.0 query.begins c.requires.1 c.ask-asked.ensures
+    answer-left query.job.bytes.now query.position query.start c.args.table.now c.args.answer.now _ _ c.requires.0 query.begins c.requires.1 c.ask-found.ensures
