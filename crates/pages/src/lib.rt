@@ -148,12 +148,10 @@ pub fn entry_of(page: &[u32; PAGE_WORDS], i: usize) -> Entry
     requires { i < FANOUT }
     ensures { result ≡ entry_in page.now i }
 {
-    let [x1, y1, x2, y2, r] = *page[PAGE_HEAD + ENTRY_WORDS * i..]
-        .first_chunk::<ENTRY_WORDS>()
-        .unwrap();
+    let at = PAGE_HEAD + ENTRY_WORDS * i;
     Entry {
-        rect: Rect { x1, y1, x2, y2 },
-        r,
+        rect: Rect::from([page[at], page[at + 1], page[at + 2], page[at + 3]]),
+        r: page[at + ENTRY_R],
     }
 }
 
