@@ -118,7 +118,17 @@ pub fn page_of(table: &[u32], p: usize) -> &[u32; PAGE_WORDS]
     requires { (TABLE_WORDS ≤ length table.now) × (p < PAGES) }
     ensures { result.now ≡ page_words table.now p }
 {
-    table[TABLE_HEAD + PAGE_WORDS * p..].first_chunk().unwrap()
+    let at = TABLE_HEAD + PAGE_WORDS * p;
+    as_page(&table[at..at + PAGE_WORDS])
+}
+
+// Words as many as a page has. The length is known where this is inlined, so that it is not tested again.
+#[inline(always)]
+fn as_page(words: &[u32]) -> &[u32; PAGE_WORDS]
+    requires { length words.now ≡ PAGE_WORDS }
+    ensures { result.now ≡ words.now }
+{
+    words.first_chunk().unwrap()
 }
 
 // Lends the words of page p, in the middle of the table, to a change.
