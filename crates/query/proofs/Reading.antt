@@ -9,7 +9,10 @@ use lib.Dec.{T}
 use Rattle.pages.specs.Sizes.{PAGES, PIECES, TABLE_WORDS}
 use Rattle.pages.specs.Layout.{no_entry, page, page_words, table_in}
 use Rattle.pages.specs.Sound.{sound}
-use Rattle.pages.specs.Readers.{entry_in}
+use Rattle.pages.specs.Readers.{entry_in, entries_in}
+use Rattle.pages.proofs.Bounds.{length-entries}
+use Rattle.pages.proofs.Firsts.{get_or-entries}
+use Rattle.std.proofs.lemmas.List.{ext_get_or}
 use Rattle.pages.proofs.Lists.{every-at}
 use Rattle.pages.proofs.Facts.{Facts}
 use Rattle.pages.proofs.Whole.{sound-in}
@@ -37,6 +40,12 @@ module _ (w : List ℕ) (p l : ℕ) (s : SoundPage w p l) where
   pub entry-in : (v : List ℕ) (i : ℕ) → v ≡ page_words w p → i < length (page (table_in w) p).entries → entry_in v i ≡ get_or (page (table_in w) p).entries i no_entry
   entry-in v i e il = ap (λ x. entry_in x i) (e ∙ cells.page-in w p s.words s.holds page-few) ∙ cells.entry-in (page (table_in w) p) i (omega (arith, size-most))
 
+  pub entries-read : (v : List ℕ) → v ≡ page_words w p → entries_in v (get_or v 1 0) ≡ (page (table_in w) p).entries
+  entries-read v e =
+      let n : length (entries_in v (get_or v 1 0)) ≡ get_or v 1 0 = length-entries v (get_or v 1 0) in
+      ext_get_or no_entry _ _ (n ∙ size_in v e)
+      (λ i il. get_or-entries v (get_or v 1 0) i no_entry (omega (arith, n)) ∙ entry-in v i e (omega (arith, n, size_in v e)))
+
   -- an entry above the leaves leads to a page one level lower
   pub child-page : (i : ℕ) → l ≢ 0 → i < length (page (table_in w) p).entries → SoundPage w (get_or (page (table_in w) p).entries i no_entry).r (l - 1)
   child-page i n il = go l n s.level
@@ -53,13 +62,6 @@ module _ (w : List ℕ) (p l : ℕ) (s : SoundPage w p l) where
   piece-number i z il =
       every-at (λ e. e.r < PIECES) (page (table_in w) p).entries no_entry
       (rw (leaf-pieces (page (table_in w) p) (s.level ∙ z)) at (page-facts.numbers p s.inside)) i il
-
-pub leaf-page : (w : List ℕ) (p l : ℕ) → SoundPage w p l → l ≡ 0 → SoundPage w p 0
-leaf-page w p l s z = record { words = s.words; holds = s.holds; inside = s.inside; level = s.level ∙ z }
-
--- the same page by an equal number
-pub same-page : (w : List ℕ) (p q l : ℕ) → p ≡ q → SoundPage w q l → SoundPage w p l
-same-page w p q l e s = rw e s
 
 -- a page at its own level, and the root
 module _ (w : List ℕ) (words : TABLE_WORDS ≤ length w) (holds : T (sound w)) where

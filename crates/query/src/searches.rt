@@ -1,9 +1,9 @@
 // A search of a sound table: what it asks of rectangles, and how it reads pages.
-ghost use Rattle.std.specs.Prelude.{◌≡◌, ◌≤◌, ◌<◌, length, get_or, T};
+ghost use Rattle.std.specs.Prelude.{◌≡◌, ◌≤◌, ◌<◌, length, T};
 ghost use Rattle.relations.specs.Steps.{joined_of};
 ghost use Rattle.pages.specs.Sizes.{TABLE_WORDS};
 ghost use Rattle.pages.specs.Rectangles.{valid};
-ghost use Rattle.pages.specs.Layout.{no_entry, page};
+ghost use Rattle.pages.specs.Layout.{page};
 ghost use Rattle.pages.specs.Sound.{sound};
 ghost use Rattle.query.specs.Admission.{code_y, code_x};
 ghost use Rattle.query.specs.Steps.{Small, admits_by, opens_by};
@@ -11,7 +11,7 @@ ghost use Rattle.query.specs.Window.{Decides};
 
 use crate::marking::Marks;
 use crate::window::{Window, window_for};
-use pages::{Entry, Rect};
+use pages::{PageEntries, Rect};
 use relations::{Code, PageTest, RowSets};
 
 /// What lies beyond the window passes no test; where `whole` holds, all else passes each.
@@ -32,6 +32,7 @@ pub struct Search<'a> {
 }
 
 impl Search<'_> {
+    ghost use Rattle.pages.specs.Left.{left};
     ghost use Rattle.query.specs.Search.{admits_in, opens_in, table_of};
 
     pub fn new(table: &[u32], reference: Rect, set: RowSets) -> Search<'_>
@@ -69,22 +70,12 @@ impl Search<'_> {
         pages::page_of(self.table, p)[pages::LEVEL] as usize
     }
 
-    /// The entry count of a page.
-    pub fn size(&self, p: usize) -> usize
+    pub fn entries(&self, p: usize) -> PageEntries<'_>
         requires { p < length (table_of self.now).pages }
-        ensures { result ≡ length (page (table_of self.now) p).entries }
+        ensures { left result ≡ (page (table_of self.now) p).entries }
     {
-        pages::page_of(self.table, p)[pages::COUNT] as usize
-    }
-
-    /// The entry at place i of a page; none of its edges exceeds 1,000,000.
-    pub fn entry(&self, p: usize, i: usize) -> Entry
-        requires page { p < length (table_of self.now).pages }
-        requires place { i < length (page (table_of self.now) p).entries }
-        ensures entry { result ≡ get_or (page (table_of self.now) p).entries i no_entry }
-        ensures small { Small result.rect }
-    {
-        pages::entry_of(pages::page_of(self.table, p), i)
+        let page = pages::page_of(self.table, p);
+        pages::entries_of(page, page[pages::COUNT] as usize)
     }
 
     // The codes of a rectangle on y and on x.

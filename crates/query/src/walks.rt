@@ -32,8 +32,7 @@ impl Search<'_> {
         requires whole { self.now.whole ≡ true }
         ensures { marks.new ≡ marked marks.old (hits_on (admits_in self.now) (table_of self.now) p) }
     {
-        for i in 0..self.size(p) {
-            let e = self.entry(p, i);
+        for e in self.entries(p) {
             marks.mark(e.r, !self.window.is_beyond(e.rect));
         }
     }
@@ -47,8 +46,7 @@ impl Search<'_> {
             self.mark_near(p, marks);
             return;
         }
-        for i in 0..self.size(p) {
-            let e = self.entry(p, i);
+        for e in self.entries(p) {
             if !self.window.is_beyond(e.rect) {
                 marks.mark(e.r, self.admits(e.rect));
             }
@@ -69,8 +67,7 @@ impl Search<'_> {
         if level == 0 {
             return count;
         }
-        for i in 0..self.size(p) {
-            let e = self.entry(p, i);
+        for e in self.entries(p) {
             if self.opens(e.rect) {
                 count = self.walk(visitor, level - 1, e.r as usize, count);
             }

@@ -1,43 +1,52 @@
--- Entry i marks its number exactly when its rectangle is admitted.
+-- Each entry marks its number exactly when its rectangle is admitted.
 use Prim.Native.Nat.{◌<◌}
-use native.Mathlib.Omega.{arith}
-use mathlib.Core.Path.{refl, sym, ap, ◌∙◌}
+use mathlib.Core.Path.{refl, sym, ap, subst, ◌∙◌}
 use mathlib.Core.Bool.{false}
-use lib.ListN.{length}
-use Rattle.pages.specs.Layout.{page}
-use Rattle.query.specs.Steps.{admitted_r}
+use Rattle.pages.specs.Sizes.{PIECES}
+use Rattle.pages.specs.Lists.{concat_map, Every}
+use Rattle.pages.specs.Left.{left}
+use Rattle.query.specs.Steps.{Small, admitted_r}
 use Rattle.query.specs.Marks.{marked}
 use Rattle.query.specs.Search.{admits_in, table_of}
-use Rattle.query.proofs.Reading.{piece-number}
-use Rattle.query.proofs.Concat.{concat-all}
+use Rattle.query.proofs.Edges.{piece-entries}
 use Rattle.query.proofs.WindowLemmas.{beyond-fails}
-use Rattle.query.proofs.Walking.{leaf-tested, hits-leaf}
+use Rattle.query.proofs.Walking.{marking-step, hits-leaf}
 use Rattle.query.proofs.searches.Search.mark_leaf.Goals as goal
-use Rattle.query.proofs.searches.Search.mark_leaf.Goals.{then-not-is_beyond, else-not-is_beyond}
 
-pub loop-i-init : goal.loop-i-init
-unfolding marked
-loop-i-init c = record { end = c.size-i-end.ensures; marks = refl }
+pub loop-e-init : goal.loop-e-init
+loop-e-init c =
+    let e = ap left c.into_iter-e-iterator.ensures.into_iter_gives ∙ c.entries-e-items.ensures in record {
+      marks = ap (λ es. marked c.args.marks.now (concat_map (admitted_r (admits_in c.args.self.now)) es)) e;
+      each = subst (Every (λ x. Small x.rect × (x.r < PIECES))) (sym e) (piece-entries _ _ _ c.requires refl);
+    }
+
+pub is_beyond-requires : goal.is_beyond-requires
+is_beyond-requires c = (subst (Every (λ x. Small x.rect × (x.r < PIECES))) c.in-Some.ensures.steps c.loop-e.invariant.each).0.0
 
 pub mark-requires : goal.mark-requires
-mark-requires c =
-    omega (arith, ap (λ x. x.r) c.entry-e.ensures.entry, piece-number _ _ _ c.requires c.loop-i.i refl (omega arith))
+mark-requires c = (subst (Every (λ x. Small x.rect × (x.r < PIECES))) c.in-Some.ensures.steps c.loop-e.invariant.each).0.1
 
-pub loop-i-preserved : goal.loop-i-preserved
-loop-i-preserved c =
+pub loop-e-preserved-then-not-is_beyond : goal.loop-e-preserved-then-not-is_beyond
+loop-e-preserved-then-not-is_beyond c =
+    let l = c.loop-e in
+    let steps = c.in-Some.ensures.steps in record {
+      marks = marking-step (admits_in c.args.self.now) _ _ c.in-Some.e l.marks _ _ steps c.admits.ensures c.mark.ensures ∙ l.invariant.marks;
+      each = (subst (Every (λ x. Small x.rect × (x.r < PIECES))) steps l.invariant.each).1;
+    }
+
+pub loop-e-preserved : goal.loop-e-preserved
+loop-e-preserved c =
     let s = c.args.self.now in
-    let l = c.loop-i in
-    let e = c.entry-e in
-    let es = (page (table_of s) c.args.p).entries in
-    let il : l.i < length es = omega arith in
-    let tested = leaf-tested (admits_in s) es l.i e.result il e.ensures.entry _ l.marks in record {
-      end = l.invariant.end;
-      marks = elim c.if-not-is_beyond.branch [ then-not-is_beyond w ↦ w.marks-is ∙ tested _ l.invariant.marks _ w.admits.ensures w.mark.ensures | else-not-is_beyond w ↦ w.marks-is ∙ tested _ l.invariant.marks false (beyond-fails _ _ _ s.leaves _ e.ensures.small _ c.is_beyond.ensures w.if-not-is_beyond.false) refl ];
+    let l = c.loop-e in
+    let steps = c.in-Some.ensures.steps in
+    let each = subst (Every (λ x. Small x.rect × (x.r < PIECES))) steps l.invariant.each in record {
+      marks = marking-step (admits_in s) _ _ c.in-Some.e l.marks l.marks false steps (beyond-fails _ _ _ s.leaves _ each.0.0 _ c.is_beyond.ensures c.if-not-is_beyond.false) refl ∙ l.invariant.marks;
+      each = each.1;
     }
 
 pub returns : goal.returns
+unfolding marked
 returns c =
     let s = c.args.self.now in
-    let l = c.loop-i in
-    let es = (page (table_of s) c.args.p).entries in
-    l.invariant.marks ∙ ap (marked _) (concat-all (admitted_r (admits_in s)) es l.i (omega arith) ∙ sym (hits-leaf (admits_in s) (table_of s) c.args.p c.requires.level))
+    let l = c.loop-e in
+    ap (λ es. marked l.marks (concat_map (admitted_r (admits_in s)) es)) (sym c.in-None.ensures.steps.0) ∙ (l.invariant.marks ∙ ap (marked c.args.marks.now) (sym (hits-leaf (admits_in s) (table_of s) c.args.p c.requires.level)))

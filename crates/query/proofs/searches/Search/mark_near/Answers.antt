@@ -1,38 +1,43 @@
--- Entry i marks its number exactly when it does not lie beyond the window, and that is when its rectangle is admitted.
+-- Each entry marks its number exactly when it does not lie beyond the window, and that is when its rectangle is admitted.
 use Prim.Native.Nat.{◌<◌}
-use native.Mathlib.Omega.{arith}
-use mathlib.Core.Path.{refl, sym, ap, ◌∙◌}
-use lib.ListN.{length}
-use Rattle.pages.specs.Layout.{page}
-use Rattle.query.specs.Steps.{admitted_r}
+use mathlib.Core.Path.{refl, sym, ap, subst, ◌∙◌}
+use Rattle.pages.specs.Sizes.{PIECES}
+use Rattle.pages.specs.Lists.{concat_map, Every}
+use Rattle.pages.specs.Left.{left}
+use Rattle.query.specs.Steps.{Small, admitted_r}
 use Rattle.query.specs.Marks.{marked}
 use Rattle.query.specs.Search.{admits_in, table_of}
-use Rattle.query.proofs.Reading.{piece-number}
-use Rattle.query.proofs.Concat.{concat-all}
+use Rattle.query.proofs.Edges.{piece-entries}
 use Rattle.query.proofs.WindowLemmas.{whole-decides}
-use Rattle.query.proofs.Walking.{leaf-tested, hits-leaf}
+use Rattle.query.proofs.Walking.{marking-step, hits-leaf}
 use Rattle.query.proofs.searches.Search.mark_near.Goals as goal
 
-pub loop-i-init : goal.loop-i-init
-unfolding marked
-loop-i-init c = record { end = c.size-i-end.ensures; marks = refl }
+pub loop-e-init : goal.loop-e-init
+loop-e-init c =
+    let e = ap left c.into_iter-e-iterator.ensures.into_iter_gives ∙ c.entries-e-items.ensures in record {
+      marks = ap (λ es. marked c.args.marks.now (concat_map (admitted_r (admits_in c.args.self.now)) es)) e;
+      each = subst (Every (λ x. Small x.rect × (x.r < PIECES))) (sym e) (piece-entries _ _ _ c.requires.page refl);
+    }
+
+pub is_beyond-requires : goal.is_beyond-requires
+is_beyond-requires c = (subst (Every (λ x. Small x.rect × (x.r < PIECES))) c.in-Some.ensures.steps c.loop-e.invariant.each).0.0
 
 pub mark-requires : goal.mark-requires
-mark-requires c =
-    omega (arith, ap (λ x. x.r) c.entry-e.ensures.entry, piece-number _ _ _ c.requires.page c.loop-i.i refl (omega arith))
+mark-requires c = (subst (Every (λ x. Small x.rect × (x.r < PIECES))) c.in-Some.ensures.steps c.loop-e.invariant.each).0.1
 
-pub loop-i-preserved : goal.loop-i-preserved
-loop-i-preserved c =
+pub loop-e-preserved : goal.loop-e-preserved
+loop-e-preserved c =
     let s = c.args.self.now in
-    let l = c.loop-i in
-    let e = c.entry-e in
-    let es = (page (table_of s) c.args.p).entries in
-    let il : l.i < length es = omega arith in
-    record { end = l.invariant.end; marks = leaf-tested (admits_in s) es l.i e.result il e.ensures.entry _ l.marks _ l.invariant.marks _ (whole-decides _ _ _ s.leaves _ e.ensures.small _ c.is_beyond.ensures c.requires.whole) c.mark.ensures }
+    let l = c.loop-e in
+    let steps = c.in-Some.ensures.steps in
+    let each = subst (Every (λ x. Small x.rect × (x.r < PIECES))) steps l.invariant.each in record {
+      marks = marking-step (admits_in s) _ _ c.in-Some.e l.marks _ _ steps (whole-decides _ _ _ s.leaves _ each.0.0 _ c.is_beyond.ensures c.requires.whole) c.mark.ensures ∙ l.invariant.marks;
+      each = each.1;
+    }
 
 pub returns : goal.returns
+unfolding marked
 returns c =
     let s = c.args.self.now in
-    let l = c.loop-i in
-    let es = (page (table_of s) c.args.p).entries in
-    l.invariant.marks ∙ ap (marked _) (concat-all (admitted_r (admits_in s)) es l.i (omega arith) ∙ sym (hits-leaf (admits_in s) (table_of s) c.args.p c.requires.page.level))
+    let l = c.loop-e in
+    ap (λ es. marked l.marks (concat_map (admitted_r (admits_in s)) es)) (sym c.in-None.ensures.steps.0) ∙ (l.invariant.marks ∙ ap (marked c.args.marks.now) (sym (hits-leaf (admits_in s) (table_of s) c.args.p c.requires.page.level)))
