@@ -18,7 +18,7 @@ const FOUR_DIRECTIONS: u64 = 1 << 32;
 const BEYOND: u64 = 1 << 40;
 
 // The rectangle after the turn; zeros for one that is not valid.
-#[tactic(auto, using(crate::proofs::Rects::answer_refused, crate::proofs::Rects::answer_turned, crate::proofs::Rects::edges_fit))]
+#[tactic(auto, using(crate::proofs::Rects::answer_refused, crate::proofs::Rects::edges_fit))]
 pub fn turned_rect(r: Rect) -> Rect
     ensures { result ≡ turned_rect r }
 {
