@@ -4,8 +4,8 @@ use mathlib.Core.Path.{◌≡◌, refl, sym, ap, ◌∙◌, subst}
 use mathlib.Core.Bool.{Bool, true, false, not, cond}
 use mathlib.Core.List.{List, [], ◌∷◌, ◌++◌}
 use native.Mathlib.Omega.{arith}
-use borrow.Author.Tests.{leb-true, leb-false, eq-eqb, ne_eqb}
-use lib.ListN.{length, take, drop, length-append}
+use borrow.Author.Tests.{leb-true, leb-false}
+use lib.ListN.{length, drop, length-append}
 use lib.Dec.{leb, ltb, eqb}
 use lib.Seq.{take-append_seam}
 use Rattle.relations.specs.Query.{CLAUSES, CLAUSE_COUNT, refusal_of}

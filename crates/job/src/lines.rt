@@ -16,6 +16,10 @@ use std::marker::Model;
 // No line is longer.
 pub const LINE_BYTES: usize = 8_192;
 
+const SPACE: u8 = b' ';
+
+const NEWLINE: u8 = b'\n';
+
 // The letters that lines begin with.
 const UNPLACED: u8 = b'P';
 
@@ -65,6 +69,13 @@ impl<const N: usize> Lines<N> {
         self.bytes.clear();
     }
 
+    fn byte(&mut self, byte: u8)
+        requires { length self.old + 1 ≤ N }
+        ensures { self.new ≡ self.old ++ byte ∷ [] }
+    {
+        self.bytes.push(byte);
+    }
+
     fn text(&mut self, text: &[u8])
         requires { length self.old + length text.now ≤ N }
         ensures { self.new ≡ self.old ++ text.now }
@@ -77,7 +88,7 @@ impl<const N: usize> Lines<N> {
         requires { length self.old + length (SPACE ∷ decimal n) ≤ N }
         ensures { self.new ≡ self.old ++ SPACE ∷ decimal n }
     {
-        self.text(b" ");
+        self.byte(SPACE);
         self.text(Buffer::new().format(n).as_bytes());
     }
 
@@ -96,10 +107,10 @@ impl<const N: usize> Lines<N> {
         ensures most { length self.new ≤ length self.old + LINE_BYTES }
         ensures bytes { self.new ≡ self.old ++ line letter (position ∷ refusal ∷ []) }
     {
-        self.text(&[letter]);
+        self.byte(letter);
         self.field(position);
         self.field(refusal);
-        self.text(b"\n");
+        self.byte(NEWLINE);
     }
 
     // The line of an accepted query.
@@ -108,12 +119,12 @@ impl<const N: usize> Lines<N> {
         ensures most { length self.new ≤ length self.old + LINE_BYTES }
         ensures bytes { self.new ≡ self.old ++ line ANSWERED (position ∷ found.hits ∷ found.opened ∷ numbers.now) }
     {
-        self.text(&[ANSWERED]);
+        self.byte(ANSWERED);
         self.field(position);
         self.field(found.hits);
         self.field(found.opened);
         self.fields(numbers);
-        self.text(b"\n");
+        self.byte(NEWLINE);
     }
 
     /// All that a bad job prints.
