@@ -23,6 +23,9 @@ pub const JOB_BYTES: usize = 65_536;
 
 const WORD_BYTES: usize = 4;
 
+// A job is made of whole words, and so is the largest.
+const _: () = prove!(JOB_BYTES % WORD_BYTES == 0);
+
 // How many values a word has.
 const WORD_VALUES: u64 = 4_294_967_296;
 
