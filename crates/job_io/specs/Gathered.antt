@@ -28,8 +28,8 @@ unfoldable pub held_at_end : ℕ → List ℕ → List ℕ
 unfolding held_queries well_formed bad_job
 held_at_end size b = cond (well_formed b) (held_queries size b) bad_job
 
--- The text ends with what the buffer holds; `sent` is some list, all of the text before that. This is proved. That the bytes of `sent`
--- reached the descriptor, in this order and once, no contract can state: it is run.
+-- The text ends with what the buffer holds; `sent` is some list, all of the text before that. `Printed` speaks of a writer whose contents
+-- std knows; what reaches a file descriptor is run.
 pub record Gathered (text buffer : List ℕ) : Type 0 where
   pub sent : List ℕ
   pub whole : text ≡ sent ++ buffer

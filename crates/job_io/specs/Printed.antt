@@ -5,6 +5,6 @@ use Rattle.std.specs.Io.KnownBytes.{Appends}
 use Rattle.job.specs.Output.{bad_job}
 use Rattle.job.specs.Words.{output}
 
--- the output of the input, or, where a read failed, what a bad job prints
+-- the output of the input, or what a bad job prints: meant for a failed read, of which this does not speak
 abbrev pub Printed : Option (List ℕ) → Option (List ℕ) → Option (List ℕ) → Type 0
 Printed input old new = IfSome input (λ b. Appends old new (output b) ⊎ Appends old new bad_job)
