@@ -1,13 +1,15 @@
 -- The tests of a page's level, size and tail.
-use Prim.Native.Nat.{ℕ, ◌+◌, ◌*◌, ◌≤◌, ◌<◌}
+use Prim.Native.Nat.{ℕ, ◌+◌, ◌-◌, ◌*◌, ◌≤◌, ◌<◌}
 use native.Mathlib.Omega.{arith}
 use mathlib.Core.Path.{◌≡◌, sym, ap, subst, ◌∙◌}
+use mathlib.Core.Bool.{Bool}
 use mathlib.Core.List.{List}
-use lib.ListN.{length, get_or, drop}
+use lib.ListN.{length, get_or, take, drop, length-drop}
+use lib.Seq.{take_all}
 use lib.Dec.{T, leb, eqb}
 use borrow.Author.Tests.{leb-true, le-leb, eqb-true, eq-eqb}
 use Rattle.std.specs.Prelude.{◌↔◌, IsTrue}
-use Rattle.pages.specs.Sizes.{PAGE_HEAD, FANOUT, ENTRY_WORDS, PAGES, TABLE_WORDS}
+use Rattle.pages.specs.Sizes.{PAGE_HEAD, FANOUT, ENTRY_WORDS, PAGE_WORDS, PAGES, TABLE_WORDS}
 use Rattle.pages.specs.Layout.{page, page_words, table_in}
 use Rattle.pages.specs.Readers.{entries_in}
 use Rattle.pages.specs.Sound.{zeros}
@@ -47,6 +49,14 @@ shaped_head w l m p long inside most = (made, tests)
     tests h = T_true _ (and (eqb (get_or (page_words w p) 0 0) l) _ (true-T _ (eq-eqb _ l (sym level-is ∙ h.level)))
         (and (leb m n) _ (true-T _ (le-leb m n (omega (arith, size-is, h.enough))))
         (and (leb n FANOUT) _ (true-T _ (le-leb n FANOUT (omega (arith, size-is, h.eight)))) (subst tail size-is h.blank))))
+
+-- the words of a page with this level and size are tested from the last entry on
+pub shaped_tail : (pg : List ℕ) (l m : ℕ) → length pg ≡ PAGE_WORDS → get_or pg 0 0 ≡ l → m ≤ get_or pg 1 0 → get_or pg 1 0 ≤ FANOUT
+    → {b : Bool} → b ≡ zeros (take (PAGE_WORDS - (PAGE_HEAD + ENTRY_WORDS * get_or pg 1 0)) (drop (PAGE_HEAD + ENTRY_WORDS * get_or pg 1 0) pg)) → b ≡ shaped pg l m
+shaped_tail pg l m long level enough eight z =
+    let a : ℕ = PAGE_HEAD + ENTRY_WORDS * get_or pg 1 0 in
+    z ∙ (ap zeros (take_all (PAGE_WORDS - a) (drop a pg) (omega (arith, length-drop a pg)))
+    ∙ rw (eq-eqb (get_or pg 0 0) l level, le-leb m (get_or pg 1 0) enough, le-leb (get_or pg 1 0) FANOUT eight))
 
 module _ (w : List ℕ) (l m p : ℕ) (pg : List ℕ) (long : TABLE_WORDS ≤ length w) (most : length (table_in w).pages ≤ PAGES) (h : Head w l m p) (is : pg ≡ page_words w p) where
   pub size_fits : get_or pg 1 0 ≤ FANOUT

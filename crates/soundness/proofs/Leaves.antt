@@ -1,12 +1,16 @@
 -- The entries of a leaf, one before the others.
-use Prim.Native.Nat.{ℕ}
+use Prim.Native.Nat.{ℕ, ◌<◌}
 use native.Mathlib.Omega.{arith}
 use mathlib.Core.Path.{◌≡◌, refl, sym, subst}
 use mathlib.Core.Bool.{Bool, true, false}
 use mathlib.Core.List.{List, [], ◌∷◌}
+use lib.ListN.{length, get_or, set}
+use lib.Dec.{eqb}
+use Rattle.std.proofs.lemmas.Grind.{common_steps}
 use Rattle.pages.specs.declared.Entry.{Entry}
 use Rattle.pages.specs.Sizes.{PIECES}
 use Rattle.pages.specs.Lists.{sum, Every}
+use Rattle.pages.specs.Rectangles.{valid}
 use Rattle.pages.specs.Sound.{is}
 use Rattle.pages.proofs.Lists.{not-both}
 use Rattle.soundness.specs.Steps.{Piece, Tested}
@@ -32,3 +36,8 @@ module _ (e : Entry) (es xs : List Entry) (is_first : xs ≡ e ∷ es) (g g₁ :
         yes = λ u. ((a.0, (t.yes u).0), adds-more PIECES g g₁ g' (λ c. is c e) (λ c. sum (is c) es) (λ c. sum (is c) (e ∷ es)) a.1 (t.yes u).1 (λ c. refl));
         no = λ u ps room. t.no u ps.1 (room-left PIECES g g₁ (λ c. is c e) (λ c. sum (is c) es) (λ c. sum (is c) (e ∷ es)) a.1 (λ c. omega arith) room);
       })
+
+-- of an entry that is valid and has a number of a piece the mark decides
+pub piece_marked : (e : Entry) {g g' : List ℕ} {b : Bool} → length g ≡ PIECES → e.r < PIECES → valid e.rect ≡ true
+    → b ≡ eqb (get_or g e.r 0) 0 → g' ≡ set g e.r 1 → Tested PIECES (Piece e) (λ c. is c e) g b g'
+piece_marked e {g} {g'} {b} n l v x y = grind (arith, common_steps)

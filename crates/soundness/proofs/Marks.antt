@@ -6,9 +6,13 @@ use mathlib.Core.Path.{◌≡◌, refl, sym, ap, ◌∙◌}
 use mathlib.Core.List.{List}
 use lib.ListN.{length, get_or, take}
 use lib.Seq.{take_all}
+use lib.Dec.{eqb}
+use borrow.Author.Tests.{eqb-true, eq-eqb}
 use Rattle.std.specs.List.{sum}
+use Rattle.std.specs.Prelude.{◌↔◌, IsTrue}
 use Rattle.std.proofs.lemmas.List.Sums.{sum_by_more}
-use Rattle.soundness.specs.Steps.{Adds, Room, total_of}
+use Rattle.pages.specs.Sizes.{PIECES}
+use Rattle.soundness.specs.Steps.{Adds, Room, total_of, Complete}
 
 -- one after the other
 pub adds_none : (n : ℕ) (h : List ℕ) → Adds n h h (λ q. 0)
@@ -30,3 +34,8 @@ total_take h (suc n) l =
 
 pub total_all : (h : List ℕ) (n : ℕ) → length h ≡ n → sum h ≡ total_of h n
 total_all h n e = ap sum (sym (take_all n h (omega arith))) ∙ total_take h n (omega arith)
+
+-- the two sums decide: of the pages as many as there are, and of the piece numbers
+pub count_decides : (w h g : List ℕ) {k a b : ℕ} → a ≡ total_of h k → a ≡ k → b ≡ total_of g PIECES → IsTrue (eqb b (get_or w 2 0)) ↔ Complete w k h g
+count_decides w h g {k} {a} {b} x y z =
+    ((λ t. (sym x ∙ y, sym z ∙ eqb-true b _ t)), (λ t. eq-eqb b _ (z ∙ t.1)))

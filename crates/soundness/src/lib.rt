@@ -144,7 +144,7 @@ impl Walk<'_> {
     }
 
     // Whether each page below k is marked, and as many piece numbers as there are pieces.
-    #[tactic(auto, using(crate::proofs::Marks::total_take, crate::proofs::Marks::total_all))]
+    #[tactic(auto, using(crate::proofs::Marks::total_take))]
     fn is_complete(&self) -> bool
         ensures { IsTrue result ↔ Complete self.now.table.now self.now.k self.now.seen self.now.numbers }
     {
@@ -177,7 +177,7 @@ fn is_sound_from(table: &[u32], k: u32, root: u32, level: u32) -> bool
 }
 
 // Whether the first words of the slice are a sound table.
-#[tactic(auto, using(crate::proofs::Decides::count_refuses, crate::proofs::Decides::root_refuses, crate::proofs::Decides::level_refuses, crate::proofs::Decides::rooted))]
+#[tactic(auto, using(crate::proofs::Decides::count_refuses, crate::proofs::Decides::root_refuses, crate::proofs::Decides::level_refuses))]
 fn is_sound(table: &[u32]) -> bool
     requires { TABLE_WORDS ≤ length table.now }
     ensures { result ≡ sound table.now }
