@@ -1,7 +1,10 @@
 -- What a valid rectangle's edges are: in order, and none too large.
 use Prim.Native.Nat.{◌≤◌, ◌<◌}
+use native.Mathlib.Omega.{arith}
+use mathlib.Core.Path.{◌≡◌}
 use mathlib.Core.List.{[], ◌∷◌}
 use lib.Dec.{T, leb, ltb, leb→le, ltb→lt}
+use Rattle.std.proofs.lemmas.Grind.{common_steps}
 use Rattle.pages.specs.declared.Rect.{Rect}
 use Rattle.pages.specs.Sizes.{EDGE}
 use Rattle.pages.specs.Rectangles.{valid}
@@ -20,3 +23,8 @@ unfolding valid
 edges r v =
     let (p, (q, (a, (b, (c, (d, _)))))) = holds (ltb r.x1 r.x2 ∷ ltb r.y1 r.y2 ∷ leb r.x1 EDGE ∷ leb r.y1 EDGE ∷ leb r.x2 EDGE ∷ leb r.y2 EDGE ∷ []) v in
     record { on-x = ltb→lt _ _ p; on-y = ltb→lt _ _ q; x-start = leb→le _ _ a; y-start = leb→le _ _ b; x-end = leb→le _ _ c; y-end = leb→le _ _ d }
+
+-- where the edges are in order and the east is within the limit, the north decides
+pub valid_north : (r : Rect) → r.x1 < r.x2 → r.y1 < r.y2 → r.x2 ≤ EDGE → leb r.y2 EDGE ≡ valid r
+unfolding valid
+valid_north r x y east = grind (arith, common_steps)
