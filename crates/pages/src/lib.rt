@@ -179,16 +179,11 @@ pub fn entries_of(page: &[u32; PAGE_WORDS], n: usize) -> PageEntries<'_>
 }
 
 // The bounds of the first n entries of a page's words.
-#[tactic(auto, using(crate::proofs::Bounds::bounds_none))]
 pub fn bounds_of(page: &[u32; PAGE_WORDS], n: usize) -> Rect
     requires { n ≤ FANOUT }
     ensures { result ≡ bounds (entries_in page.now n) }
 {
-    let mut entries = entries_of(page, n);
-    let Some(first) = entries.next() else {
-        return Rect::default();
-    };
-    entries.fold(first.rect, |bounds, e| bounds.widened(e.rect))
+    entries_of(page, n).bounds()
 }
 
 // Makes the table empty, whatever words it had.

@@ -145,27 +145,25 @@ module _ {w u : List ℕ} {l m p k : ℕ} {h h₁ g g₁ pg : List ℕ} (long : 
   few : length (table_in w).pages ≤ PAGES
   few = omega arith
 
-  abbrev pub es : List Entry
-  es = entries_in pg (get_or pg 1 0)
-
-  ent : (page (table_in w) p).entries ≡ es
-  ent = entries-are w l m p pg long few (x.yes refl).0 is
-
   pub walk_fits : get_or pg 1 0 ≤ FANOUT
   walk_fits = size_fits w l m p pg long few (x.yes refl).0 is
 
   from : (v : Option Rect) (h' g' : List ℕ) → Visited w l m p h g₁ v h' g' → Visited w l m p h g v h' g'
   from v h' g' = subst (λ y. Visited w l m p h y v h' g') same.1
 
-  pub walk-leaf : l ≡ 0 → {v : Option Rect} {g' : List ℕ} → LeafTested es g₁ v g' → Visited w l m p h g v h₁ g'
-  walk-leaf z {v} {g'} y = from v h₁ g' (subst (λ d. Tested PAGES (Head w d m p) (λ q. one (eqb p q)) h true h₁ → Visited w d m p h g₁ v h₁ g') (sym z) (λ t. leaf-at w m p h h₁ g₁ es ent v g' t y) x)
+  module _ {es : List Entry} (items : es ≡ entries_in pg (get_or pg 1 0)) where
+    ent : (page (table_in w) p).entries ≡ es
+    ent = entries-are w l m p pg long few (x.yes refl).0 is ∙ sym items
 
-  module _ (above : l ≡ 0 → ⊥) where
-    entered : Tested PAGES (Head w (suc (l - 1)) m p) (λ q. one (eqb p q)) h true h₁
-    entered = subst (λ d. Tested PAGES (Head w d m p) (λ q. one (eqb p q)) h true h₁) (sym (up l above)) x
+    pub walk-leaf : l ≡ 0 → {v : Option Rect} {g' : List ℕ} → LeafTested es g₁ v g' → Visited w l m p h g v h₁ g'
+    walk-leaf z {v} {g'} y = from v h₁ g' (subst (λ d. Tested PAGES (Head w d m p) (λ q. one (eqb p q)) h true h₁ → Visited w d m p h g₁ v h₁ g') (sym z) (λ t. leaf-at w m p h h₁ g₁ es ent v g' t y) x)
 
-    pub walk-good : {h' g' : List ℕ} {b : Rect} → b ≡ bounds es → Below w (l - 1) es h₁ g₁ true h' g' → Visited w l m p h g (Some b) h' g'
-    walk-good {h'} {g'} {b} z y = from (Some b) h' g' (subst (λ d. Visited w d m p h g₁ (Some b) h' g') (up l above) (good-at w m p h h₁ g₁ es ent (l - 1) h' g' entered b z y))
+    module _ (above : l ≡ 0 → ⊥) where
+      entered : Tested PAGES (Head w (suc (l - 1)) m p) (λ q. one (eqb p q)) h true h₁
+      entered = subst (λ d. Tested PAGES (Head w d m p) (λ q. one (eqb p q)) h true h₁) (sym (up l above)) x
 
-    pub walk-bad : {h' g' : List ℕ} → Below w (l - 1) es h₁ g₁ false h' g' → Visited w l m p h g None h' g'
-    walk-bad {h'} {g'} y = from None h' g' (subst (λ d. Visited w d m p h g₁ None h' g') (up l above) (bad-at w m p h h₁ g₁ es ent (l - 1) h' g' entered y))
+      pub walk-good : {h' g' : List ℕ} {b : Rect} → b ≡ bounds es → Below w (l - 1) es h₁ g₁ true h' g' → Visited w l m p h g (Some b) h' g'
+      walk-good {h'} {g'} {b} z y = from (Some b) h' g' (subst (λ d. Visited w d m p h g₁ (Some b) h' g') (up l above) (good-at w m p h h₁ g₁ es ent (l - 1) h' g' entered b z y))
+
+      pub walk-bad : {h' g' : List ℕ} → Below w (l - 1) es h₁ g₁ false h' g' → Visited w l m p h g None h' g'
+      walk-bad {h'} {g'} y = from None h' g' (subst (λ d. Visited w d m p h g₁ None h' g') (up l above) (bad-at w m p h h₁ g₁ es ent (l - 1) h' g' entered y))

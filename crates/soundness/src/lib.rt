@@ -5,14 +5,14 @@ ghost use Rattle.std.specs.Prelude.{◌≡◌, ◌+◌, ◌*◌, ◌≤◌, ◌<
 ghost use Rattle.pages.specs.Sizes.{PIECES, FANOUT, PAGES, TABLE_WORDS};
 ghost use Rattle.pages.specs.Lists.{one};
 ghost use Rattle.pages.specs.Layout.{table_in};
-ghost use Rattle.pages.specs.Readers.{entries_in};
+ghost use Rattle.pages.specs.Left.{left};
 ghost use Rattle.pages.specs.Sound.{is, zeros, sound};
 ghost use Rattle.soundness.specs.Calls.{checked_of, check_call};
 ghost use Rattle.soundness.specs.Steps.{Piece, shaped, Head, Tested, LeafTested, Visited, Complete, root_fewest, Rooted};
 
 use pages::{
     COUNT, ENTRY_WORDS, Entry, FANOUT, FEWEST, LEVEL, NUMBERS, PAGE_COUNT, PAGE_HEAD, PAGE_WORDS,
-    PAGES, PIECE_COUNT, ROOT, ROOT_LEAST, Rect, TABLE_HEAD, TABLE_WORDS, TOP_LEVEL,
+    PAGES, PIECE_COUNT, PageEntries, ROOT, ROOT_LEAST, Rect, TABLE_HEAD, TABLE_WORDS, TOP_LEVEL,
 };
 use refusals::{ACCEPTED, Refusal};
 use std::mem;
@@ -74,16 +74,15 @@ fn take_piece(e: Entry, numbers: &mut [u8; NUMBERS]) -> bool
 }
 
 // The bounds of a leaf's entries, if they pass their tests.
-fn leaf(page: &[u32; PAGE_WORDS], n: usize, numbers: &mut [u8; NUMBERS]) -> Option<Rect>
-    requires { n ≤ FANOUT }
-    ensures { LeafTested (entries_in page.now n) numbers.old result numbers.new }
+fn leaf(entries: PageEntries<'_>, numbers: &mut [u8; NUMBERS]) -> Option<Rect>
+    ensures { LeafTested (left entries.entry) numbers.old result numbers.new }
 {
-    for e in pages::entries_of(page, n) {
+    for e in entries {
         if !take_piece(e, numbers) {
             return None;
         }
     }
-    Some(pages::bounds_of(page, n))
+    Some(entries.bounds())
 }
 
 // The tests of a page's level, size and tail.
@@ -129,18 +128,18 @@ impl Walk<'_> {
             return None;
         }
         let page = pages::page_of(self.table, p as usize);
-        let n = page[COUNT] as usize;
+        let entries = pages::entries_of(page, page[COUNT] as usize);
         if level == 0 {
-            return leaf(page, n, &mut self.numbers);
+            return leaf(entries, &mut self.numbers);
         }
-        for e in pages::entries_of(page, n) {
+        for e in entries {
             let child = self.visit(level - 1, FEWEST, e.r)?;
             // "An entry above the leaves holds exactly the bounding rectangle of its child's entries".
             if e.rect != child {
                 return None;
             }
         }
-        Some(pages::bounds_of(page, n))
+        Some(entries.bounds())
     }
 
     // Whether each page below k is marked, and as many piece numbers as there are pieces.

@@ -14,5 +14,5 @@ loop-e-preserved c = λ r g t. c.loop-e.invariant r g (pieces_go _ _ _ c.in-Some
 pub returns : goal.returns
 returns c = record {
   tested = c.loop-e.invariant _ _ (pieces_none _ _ c.in-None.ensures.steps.0);
-  exact = c.bounds_of.ensures;
+  exact = c.bounds.ensures;
 }

@@ -6,18 +6,13 @@ use Rattle.soundness.proofs.Walk.+visit.Goals as goal
 pub returns-then-not-enter-clause-visited : goal.returns-then-not-enter-clause-visited
 returns-then-not-enter-clause-visited t c = walk-not c.enter.ensures.same.1 c.if-not-enter.ensures.tested
 
-pub leaf-requires : goal.leaf-requires
-leaf-requires t c =
-    let s = c.args.self.now in
-    walk_fits s.long s.count s.most c.if-not-enter.ensures.tested c.enter.ensures.same c.page_of-page.ensures
-
 pub returns-then-level-eq0-clause-visited : goal.returns-then-level-eq0-clause-visited
 returns-then-level-eq0-clause-visited t c =
     let s = c.args.self.now in
-    walk-leaf s.long s.count s.most c.if-not-enter.ensures.tested c.enter.ensures.same c.page_of-page.ensures c.if-level-eq0.true c.leaf.ensures
+    walk-leaf s.long s.count s.most c.if-not-enter.ensures.tested c.enter.ensures.same c.page_of-page.ensures c.entries_of-entries.ensures.items c.if-level-eq0.true c.leaf.ensures
 
-pub entries_of-e-items-requires : goal.entries_of-e-items-requires
-entries_of-e-items-requires t c =
+pub entries_of-entries-requires : goal.entries_of-entries-requires
+entries_of-entries-requires t c =
     let s = c.args.self.now in
     walk_fits s.long s.count s.most c.if-not-enter.ensures.tested c.enter.ensures.same c.page_of-page.ensures
 
@@ -25,14 +20,14 @@ pub returns-in_err-child-clause-visited : goal.returns-in_err-child-clause-visit
 returns-in_err-child-clause-visited t c =
     let s = c.args.self.now in
     let l = c.loop-e.invariant in
-    rw c.from_residual.ensures (walk-bad s.long s.count s.most c.if-not-enter.ensures.tested c.enter.ensures.same c.page_of-page.ensures c.if-level-eq0.false
+    rw c.from_residual.ensures (walk-bad s.long s.count s.most c.if-not-enter.ensures.tested c.enter.ensures.same c.page_of-page.ensures c.entries_of-entries.ensures.items c.if-level-eq0.false
     (l.below _ _ _ (below_stop l.same c.in-Some.ensures.steps c.in_err-child.ensures.visited)))
 
 pub returns-then-ne-clause-visited : goal.returns-then-ne-clause-visited
 returns-then-ne-clause-visited t c =
     let s = c.args.self.now in
     let l = c.loop-e.invariant in
-    walk-bad s.long s.count s.most c.if-not-enter.ensures.tested c.enter.ensures.same c.page_of-page.ensures c.if-level-eq0.false
+    walk-bad s.long s.count s.most c.if-not-enter.ensures.tested c.enter.ensures.same c.page_of-page.ensures c.entries_of-entries.ensures.items c.if-level-eq0.false
     (l.below _ _ _ (below_other l.same c.in-Some.ensures.steps c.in_ok-child.ensures.visited (differ c.ne.ensures c.if-ne.true)))
 
 pub loop-e-preserved : goal.loop-e-preserved
@@ -43,13 +38,8 @@ loop-e-preserved t c =
       below = λ r h g y. l.below r h g (below_go l.same c.in-Some.ensures.steps c.in_ok-child.ensures.visited (alike c.ne.ensures c.if-ne.false) y);
     }
 
-pub bounds_of-requires : goal.bounds_of-requires
-bounds_of-requires t c =
-    let s = c.args.self.now in
-    walk_fits s.long s.count s.most c.if-not-enter.ensures.tested c.enter.ensures.same c.page_of-page.ensures
-
 pub returns-clause-visited : goal.returns-clause-visited
 returns-clause-visited t c =
     let s = c.args.self.now in
-    walk-good s.long s.count s.most c.if-not-enter.ensures.tested c.enter.ensures.same c.page_of-page.ensures c.if-level-eq0.false c.bounds_of.ensures
+    walk-good s.long s.count s.most c.if-not-enter.ensures.tested c.enter.ensures.same c.page_of-page.ensures c.entries_of-entries.ensures.items c.if-level-eq0.false c.bounds.ensures
     (c.loop-e.invariant.below _ _ _ (below_none c.in-None.ensures.steps.0))

@@ -1,5 +1,4 @@
 use Rattle.std.proofs.Common.{◌≡◌, ◌-◌, List, ℕ, Bool}
-use Rattle.pages.specs.Readers.{entries_in}
 use Rattle.pages.specs.Left.{left}
 use Rattle.soundness.proofs.Walks.{Below}
 use Rattle.soundness.proofs.Walk.+visit.Given as goal
@@ -13,5 +12,5 @@ invariant-loop-e l = record {
   same : l.self.table.now ≡ l.fn.self.table.now;
   below : (r : Bool) (h g : List ℕ)
       → Below l.fn.self.table.now (l.level - 1) (left l.e-iterator) l.self.seen l.self.numbers r h g
-      → Below l.fn.self.table.now (l.level - 1) (entries_in l.page l.n) l.initial.self.seen l.initial.self.numbers r h g;
+      → Below l.fn.self.table.now (l.level - 1) (left l.entries) l.initial.self.seen l.initial.self.numbers r h g;
 }
