@@ -17,7 +17,9 @@ ghost use Rattle.placing.specs.Steps.{split_into, add_to, bounds_at, entry_for_i
 
 use choice::choose;
 use order::ordered_nine;
-use pages::{COUNT, Entry, FANOUT, LEVEL, PAGE_COUNT, PAGES, PIECE_COUNT, PIECES, ROOT, Rect};
+use pages::{
+    COUNT, Entry, FANOUT, LEVEL, PAGE_COUNT, PAGES, PIECE_COUNT, PIECES, ROOT, Rect, TABLE_WORDS,
+};
 use refusals::Refusal;
 use search::stands;
 use words::{append_entry, entry_count, write_entry, write_page};
@@ -26,8 +28,8 @@ use words::{append_entry, entry_count, write_entry, write_page};
 const STAY: usize = 4;
 
 // Four of the nine stay in page p, and five go to page k.
-fn split_page(table: &mut [u32], p: u32, k: u32, e: Entry)
-    requires { (TABLE_WORDS ≤ length table.old) × (p < PAGES) × (k < PAGES) }
+fn split_page(table: &mut [u32; TABLE_WORDS], p: u32, k: u32, e: Entry)
+    requires { (p < PAGES) × (k < PAGES) }
     ensures { table.new ≡ split_into table.old p k e }
 {
     let page = pages::page_of(table, p as usize);
@@ -45,8 +47,8 @@ fn split_page(table: &mut [u32], p: u32, k: u32, e: Entry)
     );
 }
 
-fn is_full(table: &[u32], p: u32) -> bool
-    requires { (TABLE_WORDS ≤ length table.now) × (p < PAGES) }
+fn is_full(table: &[u32; TABLE_WORDS], p: u32) -> bool
+    requires { p < PAGES }
     ensures { result ≡ leb FANOUT (get_or (page_words table.now p) 1 0) }
 {
     pages::page_of(table, p as usize)[COUNT] as usize >= FANOUT
@@ -54,8 +56,8 @@ fn is_full(table: &[u32], p: u32) -> bool
 
 // Adds the entry to page p. A full page is split, and the answer is the page that was made of its other part.
 #[tactic(auto, unfolding(crate::specs::Steps::add_to))]
-fn add_entry(table: &mut [u32], p: u32, e: Entry) -> Option<u32>
-    requires { (TABLE_WORDS ≤ length table.old) × (p < PAGES) }
+fn add_entry(table: &mut [u32; TABLE_WORDS], p: u32, e: Entry) -> Option<u32>
+    requires { p < PAGES }
     ensures { (result, table.new) ≡ add_to table.old p e }
 {
     if !is_full(table, p) {
@@ -73,8 +75,7 @@ fn add_entry(table: &mut [u32], p: u32, e: Entry) -> Option<u32>
 
 // The bounds of page q; zeros where it has no entry or is no page.
 #[tactic(auto, unfolding(crate::specs::Steps::bounds_at))]
-fn bounds_at(table: &[u32], q: u32) -> Rect
-    requires { TABLE_WORDS ≤ length table.now }
+fn bounds_at(table: &[u32; TABLE_WORDS], q: u32) -> Rect
     ensures { result ≡ bounds_at table.now q }
 {
     if q as usize >= PAGES {
@@ -85,8 +86,7 @@ fn bounds_at(table: &[u32], q: u32) -> Rect
 }
 
 // The entry for page q: its bounds.
-fn entry_for(table: &[u32], q: u32) -> Entry
-    requires { TABLE_WORDS ≤ length table.now }
+fn entry_for(table: &[u32; TABLE_WORDS], q: u32) -> Entry
     ensures { result ≡ entry_for_in table.now q }
 {
     Entry {
@@ -97,8 +97,8 @@ fn entry_for(table: &[u32], q: u32) -> Entry
 
 // Widens the entry at place i of page p by the new rectangle. It was exact, so no bounds are made anew.
 #[tactic(auto, unfolding(crate::specs::Steps::widen_entry))]
-fn widen_entry(table: &mut [u32], p: u32, i: usize, new: Rect)
-    requires { (TABLE_WORDS ≤ length table.old) × (p < PAGES) × (i < FANOUT) }
+fn widen_entry(table: &mut [u32; TABLE_WORDS], p: u32, i: usize, new: Rect)
+    requires { (p < PAGES) × (i < FANOUT) }
     ensures { table.new ≡ widen_entry table.old p i new }
 {
     pages::change_page(table, p as usize, |page| words::widen_entry(page, i, new));
@@ -106,8 +106,8 @@ fn widen_entry(table: &mut [u32], p: u32, i: usize, new: Rect)
 
 // The child q at place i of page p was split, and page k was made of its other part: q's entry gets its bounds, and k an entry of its own.
 #[tactic(auto, unfolding(crate::specs::Steps::parted, crate::specs::Steps::reset_entry))]
-fn add_part(table: &mut [u32], p: u32, i: usize, q: u32, k: u32) -> Option<u32>
-    requires { (TABLE_WORDS ≤ length table.old) × (p < PAGES) × (i < FANOUT) }
+fn add_part(table: &mut [u32; TABLE_WORDS], p: u32, i: usize, q: u32, k: u32) -> Option<u32>
+    requires { (p < PAGES) × (i < FANOUT) }
     ensures { (result, table.new) ≡ parted p i q k table.old }
 {
     let e = entry_for(table, q);
@@ -117,8 +117,7 @@ fn add_part(table: &mut [u32], p: u32, i: usize, q: u32, k: u32) -> Option<u32>
 }
 
 // Adds the entry below page p, which is at the level; the answer is the page that was split off p.
-fn place_at(table: &mut [u32], level: u32, p: u32, e: Entry) -> Option<u32>
-    requires { TABLE_WORDS ≤ length table.old }
+fn place_at(table: &mut [u32; TABLE_WORDS], level: u32, p: u32, e: Entry) -> Option<u32>
     ensures { (result, table.new) ≡ place_at level table.old p e }
 {
     if p as usize >= PAGES {
@@ -141,8 +140,7 @@ fn place_at(table: &mut [u32], level: u32, p: u32, e: Entry) -> Option<u32>
 
 // A new page becomes the root, over the old root and page q, which was split off it.
 #[tactic(auto, unfolding(crate::specs::Steps::root_made))]
-fn make_root(table: &mut [u32], root: u32, q: u32, level: u32)
-    requires { TABLE_WORDS ≤ length table.old }
+fn make_root(table: &mut [u32; TABLE_WORDS], root: u32, q: u32, level: u32)
     ensures { table.new ≡ root_made table.old root q level }
 {
     let k = table[PAGE_COUNT];
@@ -158,6 +156,17 @@ fn make_root(table: &mut [u32], root: u32, q: u32, level: u32)
 // A place call that nothing refuses.
 pub fn place_new(table: &mut [u32], number: u32, rect: Rect)
     requires { (TABLE_WORDS ≤ length table.old) × T (sound table.old) × T (valid rect) × (number < PIECES) × (stored (table_in table.old) number ≡ 0) }
+    ensures { table.new ≡ placed_words table.old number rect }
+{
+    match table.first_chunk_mut() {
+        Some(words) => place_words(words, number, rect),
+        None => unreachable!(),
+    }
+}
+
+// The same over the words of the table.
+fn place_words(table: &mut [u32; TABLE_WORDS], number: u32, rect: Rect)
+    requires { T (sound table.old) × T (valid rect) × (number < PIECES) × (stored (table_in table.old) number ≡ 0) }
     ensures { table.new ≡ placed_words table.old number rect }
 {
     let root = table[ROOT];
