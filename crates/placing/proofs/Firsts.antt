@@ -1,8 +1,8 @@
 -- A call reads and writes the first words, which are the table: on words of any length it is the call on these, with the rest left.
 use Prim.Native.Nat.{ℕ, ◌≤◌}
 use native.Mathlib.Omega.{arith}
-use mathlib.Core.Path.{◌≡◌, ap, subst, ◌∙◌, sym}
-use mathlib.Core.Bool.{Bool, ◌&&◌}
+use mathlib.Core.Path.{◌≡◌, ap, subst, sym}
+use mathlib.Core.Bool.{◌&&◌}
 use mathlib.Core.List.{List, [], ◌++◌, append-nil}
 use lib.ListN.{length, take, drop, length-take, drop_of_length-le}
 use lib.Seq.{take_all}

@@ -1,8 +1,7 @@
 -- The table is the first words, and the rest is left.
-use Rattle.std.proofs.Common.{rules, ◌≡◌, ap, ◌∙◌, ◌++◌, length}
-use lib.ListN.{take, drop}
+use Rattle.std.proofs.Common.{rules, ◌≡◌, ◌∙◌}
+use lib.ListN.{take}
 use Rattle.pages.specs.Sizes.{TABLE_WORDS}
-use Rattle.pages.specs.Sound.{sound}
 use Rattle.placing.proofs.Firsts.{stored-firsts, sound-firsts, placed-firsts}
 use Rattle.placing.proofs.place_new.Goals as goal
 
