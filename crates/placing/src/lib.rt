@@ -24,7 +24,7 @@ use pages::{
 };
 use refusals::Refusal;
 use search::stands;
-use words::{append_entry, entry_count, write_entry, write_page};
+use words::{Slot, append_entry, entry_count, write_entry, write_page};
 
 // How many of nine entries stay in a page that is split.
 const STAY: usize = 4;
@@ -91,23 +91,27 @@ fn entry_for(table: &[u32; TABLE_WORDS], q: u32) -> Entry
     }
 }
 
-// Widens the entry at place i of page p by the new rectangle. It was exact, so no bounds are made anew.
+// Widens the entry in a slot of page p by the new rectangle. It was exact, so no bounds are made anew.
 #[tactic(auto, unfolding(crate::specs::Steps::widen_entry))]
-fn widen_entry(table: &mut [u32; TABLE_WORDS], p: PageNumber, i: usize, new: Rect)
-    requires { i < FANOUT }
-    ensures { table.new ≡ widen_entry table.old p.number i new }
+fn widen_entry(table: &mut [u32; TABLE_WORDS], p: PageNumber, slot: Slot, new: Rect)
+    ensures { table.new ≡ widen_entry table.old p.number slot.index new }
 {
-    pages::change_page(table, p.index(), |page| words::widen_entry(page, i, new));
+    pages::change_page(table, p.index(), |page| words::widen_entry(page, slot, new));
 }
 
-// The child q at place i of page p was split, and page k was made of its other part: q's entry gets its bounds, and k an entry of its own.
+// The child q in a slot of page p was split, and page k was made of its other part: q's entry gets its bounds, and k an entry of its own.
 #[tactic(auto, unfolding(crate::specs::Steps::parted, crate::specs::Steps::reset_entry))]
-fn add_part(table: &mut [u32; TABLE_WORDS], p: PageNumber, i: usize, q: u32, k: u32) -> Option<u32>
-    requires { i < FANOUT }
-    ensures { (result, table.new) ≡ parted p.number i q k table.old }
+fn add_part(
+    table: &mut [u32; TABLE_WORDS],
+    p: PageNumber,
+    slot: Slot,
+    q: u32,
+    k: u32,
+) -> Option<u32>
+    ensures { (result, table.new) ≡ parted p.number slot.index q k table.old }
 {
     let e = entry_for(table, q);
-    pages::change_page(table, p.index(), |page| write_entry(page, i, e));
+    pages::change_page(table, p.index(), |page| write_entry(page, slot, e));
     let part = entry_for(table, k);
     add_entry(table, p, part)
 }
@@ -121,14 +125,14 @@ fn place_at(table: &mut [u32; TABLE_WORDS], level: u32, p: u32, e: Entry) -> Opt
         return add_entry(table, p, e);
     }
     let page = pages::page_of(table, p.index());
-    let i = choose(page, e.rect);
-    let q = pages::entry_of(page, i).r;
+    let slot = choose(page, e.rect);
+    let q = pages::entry_of(page, slot.index).r;
     match place_at(table, level - 1, q, e) {
         None => {
-            widen_entry(table, p, i, e.rect);
+            widen_entry(table, p, slot, e.rect);
             None
         }
-        Some(k) => add_part(table, p, i, q, k),
+        Some(k) => add_part(table, p, slot, q, k),
     }
 }
 
