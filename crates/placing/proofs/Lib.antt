@@ -14,6 +14,7 @@ pub mod TableWords
 pub mod Adding
 pub mod Descent
 pub mod Joined
+pub mod Firsts
 pub mod Called
 pub mod Tested
 pub mod Untouched

@@ -1,27 +1,15 @@
--- What the smallest parts of `place` are held to: a comparison of two entries to go to, and the order of nine by keys with places.
-use Rattle.std.specs.Prelude.{ℕ, zero, suc, ◌+◌, ◌*◌, min, max, Bool, ◌&&◌, ◌||◌, cond, List, [], ◌∷◌, ltb, eqb}
+-- What the smallest parts of `place` are held to: the cost of an entry to go to, and the order of nine by keys with places.
+use Rattle.std.specs.Prelude.{ℕ, zero, suc, ◌+◌, ◌*◌, min, max, cond, List, [], ◌∷◌, ltb}
 use Rattle.pages.specs.declared.Rect.{Rect}
 use Rattle.pages.specs.declared.Entry.{Entry}
 use Rattle.pages.specs.Sizes.{FANOUT}
 use Rattle.pages.specs.Readers.{entry_in}
 use Rattle.placing.specs.declared.choice.Cost.{Cost}
-use Rattle.placing.specs.declared.choice.Way.{Way}
 use Rattle.placing.specs.Place.{area, growth}
 
 -- what it costs to go to the rectangle r
 abbrev pub cost_of : Rect → Rect → Cost
 cost_of new r = record { growth = growth new r; area = area r }
-
--- the rectangle r, at a place of a page, as one to go to
-abbrev pub way_of : Rect → Rect → ℕ → Way
-way_of new r at = record { cost = cost_of new r; at = at }
-
--- `before` of Place, on the costs of two rectangles
-abbrev pub costs_less : Cost → Cost → Bool
-costs_less a b = ltb a.growth b.growth || (eqb a.growth b.growth && ltb a.area b.area)
-
-abbrev pub cheaper : Way → Way → Way
-cheaper a b = cond (costs_less a.cost b.cost) a b
 
 -- the entries of a page that is split: one more than it has room for
 abbrev pub NINE : ℕ

@@ -1,12 +1,11 @@
 // The entry to go to: the one whose area grows least.
-ghost use Rattle.std.specs.Prelude.{◌≡◌, ◌-◌, ◌<◌, length};
-ghost use Rattle.pages.specs.Sizes.{FANOUT, PAGE_WORDS};
-ghost use Rattle.pages.specs.Readers.{entry_in};
+ghost use Rattle.std.specs.Prelude.{◌≡◌, ◌-◌, length};
+ghost use Rattle.pages.specs.Sizes.{PAGE_WORDS};
 ghost use Rattle.placing.specs.Place.{area};
-ghost use Rattle.placing.specs.Parts.{cost_of, way_of, cheaper};
+ghost use Rattle.placing.specs.Parts.{cost_of};
 ghost use Rattle.placing.specs.Steps.{chosen_in};
 
-use super::words::entry_count;
+use super::words::{Slot, entry_count};
 use pages::{PAGE_WORDS, Rect};
 
 pub fn width(r: Rect) -> u32
@@ -36,13 +35,6 @@ pub struct Cost {
     pub area: u64,
 }
 
-// An entry to go to: its cost, and its place in the page.
-#[derive(Clone, Copy)]
-pub struct Way {
-    pub cost: Cost,
-    pub at: usize,
-}
-
 #[tactic(auto, using(crate::proofs::Choosing::area_widen))]
 fn cost_of(r: Rect, new: Rect) -> Cost
     ensures { result ≡ cost_of new r }
@@ -54,29 +46,13 @@ fn cost_of(r: Rect, new: Rect) -> Cost
     }
 }
 
-fn way_of(page: &[u32; PAGE_WORDS], at: usize, new: Rect) -> Way
-    requires { at < FANOUT }
-    ensures { result ≡ way_of new (entry_in page.now at).rect at }
+// The slot of the entry to go to; of none, the first.
+pub fn choose(page: &[u32; PAGE_WORDS], new: Rect) -> Slot
+    ensures { result.index ≡ chosen_in page.now new }
 {
-    let cost = cost_of(pages::entry_of(page, at).rect, new);
-    Way { cost, at }
-}
-
-// The second, unless the first costs less.
-fn cheaper(a: Way, b: Way) -> Way
-    ensures { result ≡ cheaper a b }
-{
-    if a.cost < b.cost { a } else { b }
-}
-
-// The place of the entry to go to; of none, 0.
-pub fn choose(page: &[u32; PAGE_WORDS], new: Rect) -> usize
-    ensures inside { result < FANOUT }
-    ensures chosen { result ≡ chosen_in page.now new }
-{
-    let mut best = way_of(page, 0, new);
-    for i in 1..entry_count(page) {
-        best = cheaper(way_of(page, i, new), best);
+    let entries = pages::entries_of(page, entry_count(page)).enumerate();
+    match entries.min_by_key(|(_, e)| cost_of(e.rect, new)) {
+        Some((index, _)) => Slot { index },
+        None => Slot { index: 0 },
     }
-    best.at
 }

@@ -2,6 +2,7 @@
 #![tactic(auto)]
 
 mod choice;
+mod number;
 mod order;
 mod search;
 mod words;
@@ -16,77 +17,72 @@ ghost use Rattle.placing.specs.Calls.{placed_words, place_sound, place_call};
 ghost use Rattle.placing.specs.Steps.{split_into, add_to, bounds_at, entry_for_in, widen_entry, parted, place_at, root_made};
 
 use choice::choose;
+use number::PageNumber;
 use order::ordered_nine;
-use pages::{COUNT, Entry, FANOUT, LEVEL, PAGE_COUNT, PAGES, PIECE_COUNT, PIECES, ROOT, Rect};
+use pages::{
+    COUNT, Entry, FANOUT, LEVEL, PAGE_COUNT, PIECE_COUNT, PIECES, ROOT, Rect, TABLE_WORDS,
+};
 use refusals::Refusal;
 use search::stands;
-use words::{append_entry, entry_count, write_entry, write_page};
+use words::{Slot, append_entry, entry_count, write_entry, write_page};
 
 // How many of nine entries stay in a page that is split.
 const STAY: usize = 4;
 
 // Four of the nine stay in page p, and five go to page k.
-fn split_page(table: &mut [u32], p: u32, k: u32, e: Entry)
-    requires { (TABLE_WORDS ≤ length table.old) × (p < PAGES) × (k < PAGES) }
-    ensures { table.new ≡ split_into table.old p k e }
+fn split_page(table: &mut [u32; TABLE_WORDS], p: PageNumber, k: PageNumber, e: Entry)
+    ensures { table.new ≡ split_into table.old p.number k.number e }
 {
-    let page = pages::page_of(table, p as usize);
+    let page = pages::page_of(table, p.index());
     let level = page[LEVEL];
     let es = ordered_nine(page, e);
     pages::change_page(
         table,
-        p as usize,
+        p.index(),
         |page| write_page(page, level, &es[..STAY]),
     );
     pages::change_page(
         table,
-        k as usize,
+        k.index(),
         |page| write_page(page, level, &es[STAY..]),
     );
 }
 
-fn is_full(table: &[u32], p: u32) -> bool
-    requires { (TABLE_WORDS ≤ length table.now) × (p < PAGES) }
-    ensures { result ≡ leb FANOUT (get_or (page_words table.now p) 1 0) }
+fn is_full(table: &[u32; TABLE_WORDS], p: PageNumber) -> bool
+    ensures { result ≡ leb FANOUT (get_or (page_words table.now p.number) 1 0) }
 {
-    pages::page_of(table, p as usize)[COUNT] as usize >= FANOUT
+    pages::page_of(table, p.index())[COUNT] as usize >= FANOUT
 }
 
 // Adds the entry to page p. A full page is split, and the answer is the page that was made of its other part.
 #[tactic(auto, unfolding(crate::specs::Steps::add_to))]
-fn add_entry(table: &mut [u32], p: u32, e: Entry) -> Option<u32>
-    requires { (TABLE_WORDS ≤ length table.old) × (p < PAGES) }
-    ensures { (result, table.new) ≡ add_to table.old p e }
+fn add_entry(table: &mut [u32; TABLE_WORDS], p: PageNumber, e: Entry) -> Option<u32>
+    ensures { (result, table.new) ≡ add_to table.old p.number e }
 {
     if !is_full(table, p) {
-        pages::change_page(table, p as usize, |page| append_entry(page, e));
+        pages::change_page(table, p.index(), |page| append_entry(page, e));
         return None;
     }
-    let k = table[PAGE_COUNT];
-    if k as usize >= PAGES {
-        return None;
-    }
+    let k = PageNumber::new(table[PAGE_COUNT])?;
     split_page(table, p, k, e);
-    table[PAGE_COUNT] = k + 1;
-    Some(k)
+    table[PAGE_COUNT] = k.number + 1;
+    Some(k.number)
 }
 
 // The bounds of page q; zeros where it has no entry or is no page.
 #[tactic(auto, unfolding(crate::specs::Steps::bounds_at))]
-fn bounds_at(table: &[u32], q: u32) -> Rect
-    requires { TABLE_WORDS ≤ length table.now }
+fn bounds_at(table: &[u32; TABLE_WORDS], q: u32) -> Rect
     ensures { result ≡ bounds_at table.now q }
 {
-    if q as usize >= PAGES {
+    let Some(q) = PageNumber::new(q) else {
         return Rect::default();
-    }
-    let page = pages::page_of(table, q as usize);
+    };
+    let page = pages::page_of(table, q.index());
     pages::bounds_of(page, entry_count(page))
 }
 
 // The entry for page q: its bounds.
-fn entry_for(table: &[u32], q: u32) -> Entry
-    requires { TABLE_WORDS ≤ length table.now }
+fn entry_for(table: &[u32; TABLE_WORDS], q: u32) -> Entry
     ensures { result ≡ entry_for_in table.now q }
 {
     Entry {
@@ -95,69 +91,79 @@ fn entry_for(table: &[u32], q: u32) -> Entry
     }
 }
 
-// Widens the entry at place i of page p by the new rectangle. It was exact, so no bounds are made anew.
+// Widens the entry in a slot of page p by the new rectangle. It was exact, so no bounds are made anew.
 #[tactic(auto, unfolding(crate::specs::Steps::widen_entry))]
-fn widen_entry(table: &mut [u32], p: u32, i: usize, new: Rect)
-    requires { (TABLE_WORDS ≤ length table.old) × (p < PAGES) × (i < FANOUT) }
-    ensures { table.new ≡ widen_entry table.old p i new }
+fn widen_entry(table: &mut [u32; TABLE_WORDS], p: PageNumber, slot: Slot, new: Rect)
+    ensures { table.new ≡ widen_entry table.old p.number slot.index new }
 {
-    pages::change_page(table, p as usize, |page| words::widen_entry(page, i, new));
+    pages::change_page(table, p.index(), |page| words::widen_entry(page, slot, new));
 }
 
-// The child q at place i of page p was split, and page k was made of its other part: q's entry gets its bounds, and k an entry of its own.
+// The child q in a slot of page p was split, and page k was made of its other part: q's entry gets its bounds, and k an entry of its own.
 #[tactic(auto, unfolding(crate::specs::Steps::parted, crate::specs::Steps::reset_entry))]
-fn add_part(table: &mut [u32], p: u32, i: usize, q: u32, k: u32) -> Option<u32>
-    requires { (TABLE_WORDS ≤ length table.old) × (p < PAGES) × (i < FANOUT) }
-    ensures { (result, table.new) ≡ parted p i q k table.old }
+fn add_part(
+    table: &mut [u32; TABLE_WORDS],
+    p: PageNumber,
+    slot: Slot,
+    q: u32,
+    k: u32,
+) -> Option<u32>
+    ensures { (result, table.new) ≡ parted p.number slot.index q k table.old }
 {
     let e = entry_for(table, q);
-    pages::change_page(table, p as usize, |page| write_entry(page, i, e));
+    pages::change_page(table, p.index(), |page| write_entry(page, slot, e));
     let part = entry_for(table, k);
     add_entry(table, p, part)
 }
 
 // Adds the entry below page p, which is at the level; the answer is the page that was split off p.
-fn place_at(table: &mut [u32], level: u32, p: u32, e: Entry) -> Option<u32>
-    requires { TABLE_WORDS ≤ length table.old }
+fn place_at(table: &mut [u32; TABLE_WORDS], level: u32, p: u32, e: Entry) -> Option<u32>
     ensures { (result, table.new) ≡ place_at level table.old p e }
 {
-    if p as usize >= PAGES {
-        return None;
-    }
+    let p = PageNumber::new(p)?;
     if level == 0 {
         return add_entry(table, p, e);
     }
-    let page = pages::page_of(table, p as usize);
-    let i = choose(page, e.rect);
-    let q = pages::entry_of(page, i).r;
+    let page = pages::page_of(table, p.index());
+    let slot = choose(page, e.rect);
+    let q = pages::entry_of(page, slot.index).r;
     match place_at(table, level - 1, q, e) {
         None => {
-            widen_entry(table, p, i, e.rect);
+            widen_entry(table, p, slot, e.rect);
             None
         }
-        Some(k) => add_part(table, p, i, q, k),
+        Some(k) => add_part(table, p, slot, q, k),
     }
 }
 
 // A new page becomes the root, over the old root and page q, which was split off it.
 #[tactic(auto, unfolding(crate::specs::Steps::root_made))]
-fn make_root(table: &mut [u32], root: u32, q: u32, level: u32)
-    requires { TABLE_WORDS ≤ length table.old }
+fn make_root(table: &mut [u32; TABLE_WORDS], root: u32, q: u32, level: u32)
     ensures { table.new ≡ root_made table.old root q level }
 {
-    let k = table[PAGE_COUNT];
-    if k as usize >= PAGES {
+    let Some(k) = PageNumber::new(table[PAGE_COUNT]) else {
         return;
-    }
+    };
     let es = [entry_for(table, root), entry_for(table, q)];
-    pages::change_page(table, k as usize, |page| write_page(page, level, &es));
-    table[PAGE_COUNT] = k + 1;
-    table[ROOT] = k;
+    pages::change_page(table, k.index(), |page| write_page(page, level, &es));
+    table[PAGE_COUNT] = k.number + 1;
+    table[ROOT] = k.number;
 }
 
 // A place call that nothing refuses.
 pub fn place_new(table: &mut [u32], number: u32, rect: Rect)
     requires { (TABLE_WORDS ≤ length table.old) × T (sound table.old) × T (valid rect) × (number < PIECES) × (stored (table_in table.old) number ≡ 0) }
+    ensures { table.new ≡ placed_words table.old number rect }
+{
+    match table.first_chunk_mut() {
+        Some(words) => place_words(words, number, rect),
+        None => unreachable!(),
+    }
+}
+
+// The same over the words of the table.
+fn place_words(table: &mut [u32; TABLE_WORDS], number: u32, rect: Rect)
+    requires { T (sound table.old) × T (valid rect) × (number < PIECES) × (stored (table_in table.old) number ≡ 0) }
     ensures { table.new ≡ placed_words table.old number rect }
 {
     let root = table[ROOT];

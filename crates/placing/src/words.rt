@@ -6,6 +6,13 @@ ghost use Rattle.placing.specs.Steps.{count_in, entry_set, entry_widened, append
 
 use pages::{COUNT, ENTRY_R, ENTRY_WORDS, Entry, FANOUT, LEVEL, PAGE_HEAD, PAGE_WORDS, Rect};
 
+// A place of a page, where an entry stands.
+#[derive(Clone, Copy)]
+pub struct Slot {
+    pub index: usize,
+    pub ghost inside: { index < FANOUT },
+}
+
 // The entry count of a page's words, at most 8.
 pub fn entry_count(page: &[u32; PAGE_WORDS]) -> usize
     ensures { result ≡ count_in page.now }
@@ -14,11 +21,10 @@ pub fn entry_count(page: &[u32; PAGE_WORDS]) -> usize
 }
 
 #[tactic(auto, unfolding(crate::specs::Steps::entry_set))]
-pub fn write_entry(page: &mut [u32; PAGE_WORDS], i: usize, e: Entry)
-    requires { i < FANOUT }
-    ensures { page.new ≡ entry_set page.old i e }
+pub fn write_entry(page: &mut [u32; PAGE_WORDS], slot: Slot, e: Entry)
+    ensures { page.new ≡ entry_set page.old slot.index e }
 {
-    let at = PAGE_HEAD + ENTRY_WORDS * i;
+    let at = PAGE_HEAD + ENTRY_WORDS * slot.index;
     page[at] = e.rect.x1;
     page[at + 1] = e.rect.y1;
     page[at + 2] = e.rect.x2;
@@ -26,14 +32,13 @@ pub fn write_entry(page: &mut [u32; PAGE_WORDS], i: usize, e: Entry)
     page[at + ENTRY_R] = e.r;
 }
 
-// Widens the entry at place i by the new rectangle.
-pub fn widen_entry(page: &mut [u32; PAGE_WORDS], i: usize, new: Rect)
-    requires { i < FANOUT }
-    ensures { page.new ≡ entry_widened page.old i new }
+// Widens the entry in the slot by the new rectangle.
+pub fn widen_entry(page: &mut [u32; PAGE_WORDS], slot: Slot, new: Rect)
+    ensures { page.new ≡ entry_widened page.old slot.index new }
 {
-    let old = pages::entry_of(page, i);
+    let old = pages::entry_of(page, slot.index);
     let rect = old.rect.widened(new);
-    write_entry(page, i, Entry { rect, r: old.r });
+    write_entry(page, slot, Entry { rect, r: old.r });
 }
 
 #[tactic(auto, unfolding(crate::specs::Steps::appended))]
@@ -42,7 +47,8 @@ pub fn append_entry(page: &mut [u32; PAGE_WORDS], e: Entry)
     ensures { page.new ≡ appended page.old e }
 {
     let n = page[COUNT];
-    write_entry(page, n as usize, e);
+    let slot = Slot { index: n as usize };
+    write_entry(page, slot, e);
     page[COUNT] = n + 1;
 }
 

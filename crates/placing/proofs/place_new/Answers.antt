@@ -1,27 +1,18 @@
--- The steps of an accepted call in turn; a sound table's head gives what they ask for.
-use Rattle.std.proofs.Common.{get_or, rules, ap, ◌∙◌}
-use native.Mathlib.Omega.{arith}
-use Rattle.placing.proofs.Stepping.{placed-is}
-use Rattle.placing.proofs.Joined.{head_in, placed-in}
+-- The table is the first words, and the rest is left.
+use Rattle.std.proofs.Common.{rules, ◌≡◌, ◌∙◌}
+use lib.ListN.{take}
+use Rattle.pages.specs.Sizes.{TABLE_WORDS}
+use Rattle.placing.proofs.Firsts.{stored-firsts, sound-firsts, placed-firsts}
 use Rattle.placing.proofs.place_new.Goals as goal
-use Rattle.placing.proofs.place_new.Goals.{in-Some, in_default}
 
-pub page_of-requires : goal.page_of-requires
-page_of-requires c = (search rules, omega (arith, head_in c.args.table.now (search rules) (search rules)))
-
-pub overflow_add-level : goal.overflow_add-level
-overflow_add-level c =
+pub place_words-requires : goal.place_words-requires
+place_words-requires c =
     let p = c.requires in
-    omega (arith, head_in _ p.0 p.1, ap (λ w. get_or w 0 0) c.page_of.ensures)
-
-pub overflow_add-table : goal.overflow_add-table
-overflow_add-table c =
-    let p = c.requires in
-    omega (arith, head_in _ p.0 p.1)
+    let same : c.in-Some.words.now ≡ take TABLE_WORDS c.args.table.now = search rules in
+    (rw same (sound-firsts _ p.1), p.2, p.3, rw same (stored-firsts _ _ ∙ p.4))
 
 pub returns : goal.returns
 returns c =
-    let p = c.requires in
-    placed-is _ _ c.match-place_at.table _ _ _ c.place_at.result (ap (λ w. get_or w 0 0) c.page_of.ensures) c.place_at.ensures
-    (elim c.match-place_at.branch [ in-Some w ↦ rw w.in-Some.is (w.table-is ∙ w.make_root.ensures) | in_default w ↦ rw w.in_default.is w.table-is ])
-    ∙ placed-in _ _ _ p.0 p.1 p.2 p.3 p.4
+    let a = c.args in
+    let same : c.in-Some.words.now ≡ take TABLE_WORDS a.table.now = search rules in
+    rw (c.place_words.ensures, same) (placed-firsts a.table.now a.number a.rect)

@@ -1,16 +1,13 @@
--- One entry more is compared with the best so far.
-use Rattle.std.proofs.Common.{◌∙◌}
-use native.Mathlib.Omega.{arith}
-use Rattle.placing.proofs.Choosing.{best-first, best-more, best-done}
+-- The least cost of a page's entries with their places.
+use Rattle.std.proofs.Common.{rules, tests, ap, ◌∙◌}
+use Rattle.std.proofs.lemmas.Iterator.Consumers.{YieldsList-from_first, YieldsList-from_enumerate}
+use Rattle.pages.specs.Left.{left}
+use Rattle.placing.proofs.Choosing.{chosen-least}
 use Rattle.placing.proofs.choice.choose.Goals as goal
-
-pub loop-i-init : goal.loop-i-init
-loop-i-init c = (omega arith, c.way_of-best.ensures ∙ best-first _ _)
-
-pub loop-i-preserved : goal.loop-i-preserved
-loop-i-preserved c = (omega arith, best-more _ _ c.loop-i.i _ _ _ c.loop-i.auto.i c.loop-i.invariant.1 c.way_of.ensures c.cheaper-best.ensures)
+use Rattle.placing.proofs.choice.choose.Goals.{in-Some, in-None}
 
 pub returns : goal.returns
 returns c =
-    let p = best-done _ _ c.loop-i.i _ _ c.loop-i.auto.i c.loop-i.invariant.0 c.loop-i-test.false c.entry_count-i-end.ensures c.loop-i.invariant.1 in
-    record { inside = p.0; chosen = p.1 }
+    let least = chosen-least _ c.args.new _ _ _ c.min_by_key.result c.entry_count.ensures c.entries_of.ensures.items c.min_by_key.ensures.ran
+    (YieldsList-from_enumerate (YieldsList-from_first (λ x. x) left _ (ap left c.enumerate-entries.ensures.source)) c.enumerate-entries.ensures.count) (λ x k q h. search (rules, tests)) in
+    elim c.match-min_by_key.branch [ in-Some w ↦ ap (λ r. r.0) w.result-is ∙ least _ w.in-Some.is | in-None w ↦ ap (λ r. r.0) w.result-is ∙ least _ w.in-None.is ]
