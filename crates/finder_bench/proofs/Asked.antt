@@ -1,16 +1,15 @@
 -- One query more; and a table that check refuses, where none is answered.
 use Rattle.std.proofs.Common.{◌≡◌, ℕ, zero, suc, ◌+◌, ◌*◌, ◌/◌, ◌%◌, ◌^◌, ◌≤◌, ◌<◌, T, List, [], length, get_or, take, drop, drop-drop, mul-zero, arith, sym, refl, ap, ◌∙◌, ap₂, add-one}
-use Rattle.std.specs.Prelude.{true, false, Result, Ok, Err, is_err}
+use Rattle.std.specs.Prelude.{Result}
 use Rattle.std.specs.Simd.{first_chunks}
-use Rattle.std.proofs.lemmas.Bool.{false≢true}
 use Rattle.refusals.specs.declared.Refusal.{Refusal}
+use Rattle.refusals.specs.Numbers.{number_of}
 use Rattle.pages.specs.declared.Rect.{Rect}
 use Rattle.pages.specs.Sizes.{TABLE_WORDS}
 use Rattle.pages.specs.Rectangles.{rect_of}
 use Rattle.pages.specs.Sound.{sound}
 use Rattle.pages.proofs.Cells.{cell-word}
-use Rattle.soundness.specs.Calls.{checked_of, check_call}
-use Rattle.soundness.proofs.Answers.{ok-sound}
+use Rattle.soundness.specs.Calls.{check_call}
 use Rattle.query.specs.declared.Found.{Found}
 use Rattle.query.specs.declared.Answer.{Answer}
 use Rattle.query.specs.Calls.{answer_of, query_sound, query_call}
@@ -38,11 +37,6 @@ reference-is ws n i l =
     let e3 = cell-word ws at RECT_WORDS 3 (omega arith) in
     ap rect_in (chunk-at RECT_WORDS n ws i l) ∙ (λ k. rect_of (e0 k) (e1 k) (e2 k) (e3 k))
 
--- check refuses, or the table is sound
-pub passed : (w : List ℕ) (r : Result ℕ Refusal) → checked_of r ≡ check_call w → is_err r ≡ false → (TABLE_WORDS ≤ length w) × T (sound w)
-passed w (Ok n) e z = ok-sound w n e
-passed w (Err why) e z = absurd (false≢true (sym z))
-
 -- what a query adds
 abbrev after : ℕ × List ℕ → Answer × List ℕ → ℕ × List ℕ
 after s r = ((s.0 + r.0.hits) % 2 ^ 64, r.1)
@@ -69,16 +63,15 @@ module _ (w references clauses answer : List ℕ) where
   pub all_asked : (n : ℕ) (s : ℕ × List ℕ) → n ≡ length references / RECT_WORDS → s ≡ so_far n → s ≡ asked_all w references clauses answer
   all_asked n s e p = p ∙ ap so_far e ∙ all-is
 
-  none-asked : (why : Refusal) → checked_of (Err why) ≡ check_call w → (n : ℕ) → ◌≡◌ {A = ℕ × List ℕ} (0, answer) (so_far n)
+  none-asked : (why : Refusal) → number_of why ≡ (check_call w).refusal → (n : ℕ) → ◌≡◌ {A = ℕ × List ℕ} (0, answer) (so_far n)
   none-asked why e zero = asked-none
   none-asked why e (suc n) =
       let ih = none-asked why e n in
       ap₂ after ih (query-unchecked w why e (reference_at references (RECT_WORDS * n)) clauses answer ∙ ap (λ s. answered n s.1) ih) ∙ sym (asked-more n)
 
-  -- by what check returns
-  pub all-refused : (r : Result ℕ Refusal) → checked_of r ≡ check_call w → is_err r ≡ true → ◌≡◌ {A = ℕ × List ℕ} (0, answer) (asked_all w references clauses answer)
-  all-refused (Ok n) e z = absurd (false≢true z)
-  all-refused (Err why) e z = none-asked why e (length references / RECT_WORDS) ∙ all-is
+  -- where the table is refused
+  pub all-refused : (why : Refusal) → number_of why ≡ (check_call w).refusal → ◌≡◌ {A = ℕ × List ℕ} (0, answer) (asked_all w references clauses answer)
+  all-refused why e = none-asked why e (length references / RECT_WORDS) ∙ all-is
 
   pub one_more : TABLE_WORDS ≤ length w → T (sound w) → (n hits h : ℕ) (left words : List ℕ) (r : Result Found Refusal) (q : Rect) → ◌≡◌ {A = ℕ × List ℕ} (hits, left) (so_far n)
       → q ≡ reference_at references (RECT_WORDS * n) → ◌≡◌ {A = Answer × List ℕ} (answer_of r, words) (query_sound w q clauses left) → h ≡ (hits + (answer_of r).hits) % 2 ^ 64

@@ -7,6 +7,7 @@ ghost use Rattle.finder_bench.specs.Asked.{asked_all};
 
 use pages::Rect;
 use refusals::refusal_of;
+use soundness::SoundTable;
 
 const RECT_WORDS: usize = 4;
 
@@ -20,9 +21,9 @@ pub extern "C" fn bench_queries(
 ) -> u64
     ensures { (result, answer.new) ≡ asked_all table.now references.now clauses.now answer.old }
 {
-    if soundness::check(table).is_err() {
+    let Ok(table) = SoundTable::read(table) else {
         return 0;
-    }
+    };
     let (rects, _) = references.as_chunks::<RECT_WORDS>();
     let mut hits: u64 = 0;
     for words in rects {

@@ -1,8 +1,7 @@
 // The queries of a job, one after the other.
-ghost use Rattle.std.specs.Prelude.{◌≡◌, ◌+◌, ◌*◌, ◌-◌, ◌≤◌, ◌<◌, ◌++◌, length, T, MatchOption};
+ghost use Rattle.std.specs.Prelude.{◌≡◌, ◌+◌, ◌*◌, ◌-◌, ◌≤◌, ◌<◌, ◌++◌, length, MatchOption};
 ghost use Rattle.std.specs.Iterator.{at_most};
-ghost use Rattle.pages.specs.Sizes.{TABLE_WORDS, PIECES};
-ghost use Rattle.pages.specs.Sound.{sound};
+ghost use Rattle.pages.specs.Sizes.{PIECES};
 ghost use Rattle.query.specs.Calls.{answer_of, query_sound};
 ghost use Rattle.job.specs.Sizes.{WORD_BYTES, QUERY_HEAD, CLAUSE_COUNT_AT, CLAUSE_WORDS, LINE_BYTES};
 ghost use Rattle.job.specs.Words.{word_at, rect_at, clauses_at, piece_count, query_start};
@@ -12,6 +11,7 @@ use crate::words::{clauses_at, rect_at, word_at};
 use crate::{CLAUSE_COUNT_AT, CLAUSE_WORDS, Job, Lines, QUERY_HEAD};
 use query::Found;
 use refusals::Refusal;
+use soundness::SoundTable;
 
 /// A query of a job: its position, and the word at which it begins.
 #[derive(Clone, Copy)]
@@ -88,9 +88,8 @@ impl Query<'_> {
         self.start + QUERY_HEAD + CLAUSE_WORDS * self.clause_count() as usize
     }
 
-    fn ask(&self, table: &[u32], answer: &mut [u16]) -> Result<Found, Refusal>
-        requires { (TABLE_WORDS ≤ length table.now) × T (sound table.now) }
-        ensures { let b = self.now.job.bytes.now in (answer_of result, answer.new) ≡ query_sound table.now (rect_at b self.now.start)
+    fn ask(&self, table: SoundTable<'_>, answer: &mut [u16]) -> Result<Found, Refusal>
+        ensures { let b = self.now.job.bytes.now in (answer_of result, answer.new) ≡ query_sound table.entry.words.now (rect_at b self.now.start)
             (clauses_at b (self.now.start + QUERY_HEAD) (word_at b (self.now.start + CLAUSE_COUNT_AT))) answer.old }
     {
         let bytes = self.job.bytes;
@@ -111,6 +110,7 @@ impl Query<'_> {
         ensures line { lines.new ≡ lines.old ++ query_line_at self.now.job.bytes.now self.now.position }
         ensures answer { answer.new ≡ answer_after self.now.job.bytes.now self.now.position answer.old }
     {
+        let table = SoundTable { words: table };
         let found = self.ask(table, answer);
         lines.query(self.position, found, answer);
     }

@@ -121,7 +121,7 @@ pub record Lists (w : List ℕ) (q : Rect) (clauses o m : List ℕ) : Type 0 whe
   pub small : length (marked_numbers m) ≤ PIECES
 
 -- the search of an accepted query
-module _ (s : Search) (w : List ℕ) (q : Rect) (clauses : List ℕ) (table : s.table.now ≡ w) (reference : s.reference ≡ q) (rows : s.set.rows ≡ row_sets clauses) where
+module _ (s : Search) (w : List ℕ) (q : Rect) (clauses : List ℕ) (table : s.table.words.now ≡ w) (reference : s.reference ≡ q) (rows : s.set.rows ≡ row_sets clauses) where
   admits-is : admits_in s ≡ admits_rect clauses q
   admits-is = ap₂ admits_by rows reference ∙ admits-same clauses q
 
@@ -133,7 +133,7 @@ module _ (s : Search) (w : List ℕ) (q : Rect) (clauses : List ℕ) (table : s.
   opened-is = ap₂ (λ f x. opened_pages f (table_in x)) opens-is table
 
   holds : T (sound w)
-  holds = subst (λ x. T (sound x)) table s.holds
+  holds = subst (λ x. T (sound x)) table s.table.holds
 
   listed-is : (m : List ℕ) → m ≡ marked no_marks (concat_map (hits_on (admits_in s) (table_of s)) (opened_in s)) → marked_numbers m ≡ query_listing w q clauses
   unfolding query_listing

@@ -9,7 +9,6 @@ use lib.ListN.{length, take, drop, length-append, length-drop}
 use lib.Seq.{take_at, drop_at}
 use lib.Dec.{T, eqb}
 use borrow.Author.Tests.{ne_eqb}
-use Rattle.std.specs.Prelude.{Err}
 use Rattle.refusals.specs.declared.Refusal.{Refusal}
 use Rattle.refusals.specs.Numbers.{number_of}
 use Rattle.relations.proofs.Answer.{number-some}
@@ -19,8 +18,8 @@ use Rattle.pages.specs.Refusals.{ACCEPTED, TABLE_TOO_SHORT, TABLE_NOT_SOUND}
 use Rattle.pages.specs.Layout.{table_in}
 use Rattle.pages.specs.Sound.{sound}
 use Rattle.pages.proofs.Whole.{sound-in}
-use Rattle.soundness.specs.Calls.{checked_of, check_call}
-use Rattle.soundness.proofs.Answers.{err_refused, checked-passed}
+use Rattle.soundness.specs.Calls.{check_call}
+use Rattle.soundness.proofs.Answers.{refused-as, checked-passed}
 use Rattle.query.specs.declared.Answer.{Answer}
 use Rattle.query.specs.declared.Opened.{Opened}
 use Rattle.query.specs.Admission.{opens}
@@ -30,15 +29,15 @@ use Rattle.query.proofs.Root.{opened-few}
 use Rattle.query.proofs.Calls.{accepted}
 
 -- a table that check refuses
-module _ (w : List ℕ) (why : Refusal) (e : checked_of (Err why) ≡ check_call w) where
+module _ (w : List ℕ) (why : Refusal) (e : number_of why ≡ (check_call w).refusal) where
   pub query-unchecked : (q : Rect) (clauses o : List ℕ) → ◌≡◌ {A = Answer × List ℕ} (no_answer (number_of why), o) (query_call w q clauses o)
   unfolding query_call
-  query-unchecked q clauses o = err_refused w why e {A = Answer × List ℕ} (λ r. (no_answer r, o)) (query_sound w q clauses o)
+  query-unchecked q clauses o = refused-as w why e {A = Answer × List ℕ} (λ r. (no_answer r, o)) (query_sound w q clauses o)
 
   pub opened-unchecked : (q : Rect) (clauses o : List ℕ) → OpenedWords w q clauses o o (no_opened (number_of why))
   unfolding opened_call
   opened-unchecked q clauses o = record {
-    result = err_refused w why e no_opened (opened_sound w q clauses o);
+    result = refused-as w why e no_opened (opened_sound w q clauses o);
     listed = λ z. absurd (number-some why z);
     rest = refl;
     size = refl;

@@ -13,7 +13,7 @@ abbrev pub opens_in : Search → Rect → Bool
 opens_in s = opens_by s.test.below s.reference
 
 abbrev pub table_of : Search → Table
-table_of s = table_in s.table.now
+table_of s = table_in s.table.words.now
 
 -- the pages that are opened from page p at level l, and from the root
 abbrev pub opened_at : Search → ℕ → ℕ → List ℕ

@@ -1,11 +1,9 @@
 // Queries: the listing of the admitted pieces, the opened pages, and the front part of an answer.
 #![tactic(auto)]
 
-ghost use Rattle.std.specs.Prelude.{◌≡◌, ◌≤◌, IfOk, length, T};
+ghost use Rattle.std.specs.Prelude.{◌≡◌, IfOk};
 ghost use Rattle.refusals.specs.Numbers.{refusal_of};
 ghost use Rattle.relations.specs.Query.{row_sets};
-ghost use Rattle.pages.specs.Sizes.{TABLE_WORDS};
-ghost use Rattle.pages.specs.Sound.{sound};
 ghost use Rattle.query.specs.Calls.{answer_of, opened_of, sound_refusal, query_sound, query_call, OpenedWords, front_of};
 ghost use Rattle.query.specs.Steps.{opened_listed};
 
@@ -15,10 +13,11 @@ mod walks;
 mod window;
 
 use marking::Marks;
-use pages::{PAGE_COUNT, PIECE_COUNT, Rect};
+use pages::Rect;
 use refusals::{ACCEPTED, Refusal};
 use relations::RowSets;
 use searches::Search;
+use soundness::SoundTable;
 use walks::Lister;
 
 /// How many pieces a query listed, and how many pages it opened.
@@ -90,7 +89,7 @@ pub fn front(answer: &[u16], count: usize) -> &[u16]
 }
 
 // The row sets of a query, where the answer slice has `size` words and `needed` are asked.
-fn set_of(reference: Rect, clauses: &[u64], size: usize, needed: u32) -> Result<RowSets, Refusal>
+fn set_of(reference: Rect, clauses: &[u64], size: usize, needed: usize) -> Result<RowSets, Refusal>
     ensures refusal { refusal_of result ≡ sound_refusal reference clauses.now size needed }
     ensures rows { IfOk result (λ set. set.rows ≡ row_sets clauses.now) }
 {
@@ -98,7 +97,7 @@ fn set_of(reference: Rect, clauses: &[u64], size: usize, needed: u32) -> Result<
         return Err(Refusal::RectangleNotValid);
     }
     let set = relations::admitted(clauses)?;
-    if size < needed as usize {
+    if size < needed {
         return Err(Refusal::AnswerTooShort);
     }
     Ok(set)
@@ -106,15 +105,14 @@ fn set_of(reference: Rect, clauses: &[u64], size: usize, needed: u32) -> Result<
 
 /// A query on a table that is known to be sound.
 pub fn query_sound(
-    table: &[u32],
+    table: SoundTable<'_>,
     reference: Rect,
     clauses: &[u64],
     answer: &mut [u16],
 ) -> Result<Found, Refusal>
-    requires { (TABLE_WORDS ≤ length table.now) × T (sound table.now) }
-    ensures { (answer_of result, answer.new) ≡ query_sound table.now reference clauses.now answer.old }
+    ensures { (answer_of result, answer.new) ≡ query_sound table.entry.words.now reference clauses.now answer.old }
 {
-    let set = set_of(reference, clauses, answer.len(), table[PIECE_COUNT])?;
+    let set = set_of(reference, clauses, answer.len(), table.piece_count())?;
     let search = Search::new(table, reference, set);
     let mut marks = Marks::new();
     let opened = search.run(&mut marks);
@@ -127,15 +125,14 @@ pub fn query_sound(
 
 /// The opened pages of a table that is known to be sound, each page before its children.
 pub fn opened_sound(
-    table: &[u32],
+    table: SoundTable<'_>,
     reference: Rect,
     clauses: &[u64],
     answer: &mut [u16],
 ) -> Result<u32, Refusal>
-    requires { (TABLE_WORDS ≤ length table.now) × T (sound table.now) }
-    ensures { (opened_of result, answer.new) ≡ opened_listed table.now reference clauses.now answer.old }
+    ensures { (opened_of result, answer.new) ≡ opened_listed table.entry.words.now reference clauses.now answer.old }
 {
-    let set = set_of(reference, clauses, answer.len(), table[PAGE_COUNT])?;
+    let set = set_of(reference, clauses, answer.len(), table.page_count())?;
     let search = Search::new(table, reference, set);
     let count = search.run(&mut Lister { words: answer });
     Ok(count as u32)
@@ -150,7 +147,7 @@ pub fn query(
 ) -> Result<Found, Refusal>
     ensures { (answer_of result, answer.new) ≡ query_call table.now reference clauses.now answer.old }
 {
-    soundness::check(table)?;
+    let table = SoundTable::read(table)?;
     query_sound(table, reference, clauses, answer)
 }
 
@@ -163,6 +160,6 @@ pub fn opened_pages(
 ) -> Result<u32, Refusal>
     ensures { OpenedWords table.now reference clauses.now answer.old answer.new (opened_of result) }
 {
-    soundness::check(table)?;
+    let table = SoundTable::read(table)?;
     opened_sound(table, reference, clauses, answer)
 }

@@ -1,30 +1,25 @@
-// A search of a sound table: what it asks of rectangles, and how it reads pages.
-ghost use Rattle.std.specs.Prelude.{◌≡◌, ◌≤◌, ◌<◌, length, T};
+// A search of a sound table, and what it asks of rectangles.
+ghost use Rattle.std.specs.Prelude.{◌≡◌, T};
 ghost use Rattle.relations.specs.Steps.{joined_of};
-ghost use Rattle.pages.specs.Sizes.{TABLE_WORDS};
 ghost use Rattle.pages.specs.Rectangles.{valid};
-ghost use Rattle.pages.specs.Layout.{page};
-ghost use Rattle.pages.specs.Sound.{sound};
 ghost use Rattle.query.specs.Admission.{code_y, code_x};
 ghost use Rattle.query.specs.Steps.{Small, admits_by, opens_by};
 ghost use Rattle.query.specs.Window.{Decides};
 
-use crate::marking::Marks;
 use crate::window::{Window, window_for};
-use pages::{PageEntries, Rect};
+use pages::Rect;
 use relations::{Code, PageTest, RowSets};
+use soundness::SoundTable;
 
 /// What lies beyond the window passes no test; where `whole` holds, all else passes each.
 #[derive(Drop)]
 pub struct Search<'a> {
-    table: &'a [u32],
+    pub table: SoundTable<'a>,
     reference: Rect,
     set: RowSets,
     test: PageTest,
     pub window: Window,
     pub whole: bool,
-    ghost words: { TABLE_WORDS ≤ length table.now },
-    ghost holds: { T (sound table.now) },
     ghost proper: { T (valid reference) },
     ghost joined: { test.below ≡ joined_of set.rows },
     ghost leaves: { Decides window whole (admits_by set.rows reference) },
@@ -32,14 +27,11 @@ pub struct Search<'a> {
 }
 
 impl Search<'_> {
-    ghost use Rattle.pages.specs.Left.{left};
-    ghost use Rattle.query.specs.Search.{admits_in, opens_in, table_of};
+    ghost use Rattle.query.specs.Search.{admits_in, opens_in};
 
-    pub fn new(table: &[u32], reference: Rect, set: RowSets) -> Search<'_>
-        requires words { TABLE_WORDS ≤ length table.now }
-        requires holds { T (sound table.now) }
-        requires proper { T (valid reference) }
-        ensures table { result.table.now ≡ table.now }
+    pub fn new(table: SoundTable<'_>, reference: Rect, set: RowSets) -> Search<'_>
+        requires { T (valid reference) }
+        ensures table { result.table.words.now ≡ table.entry.words.now }
         ensures reference { result.reference ≡ reference }
         ensures set { result.set ≡ set }
     {
@@ -54,28 +46,6 @@ impl Search<'_> {
             window: Window::new(window),
             whole,
         }
-    }
-
-    /// The page number of the root, and its level.
-    pub fn root(&self) -> usize
-        ensures { result ≡ (table_of self.now).root }
-    {
-        self.table[pages::ROOT] as usize
-    }
-
-    pub fn level(&self, p: usize) -> usize
-        requires { p < length (table_of self.now).pages }
-        ensures { result ≡ (page (table_of self.now) p).level }
-    {
-        pages::page_of(self.table, p)[pages::LEVEL] as usize
-    }
-
-    pub fn entries(&self, p: usize) -> PageEntries<'_>
-        requires { p < length (table_of self.now).pages }
-        ensures { left result ≡ (page (table_of self.now) p).entries }
-    {
-        let page = pages::page_of(self.table, p);
-        pages::entries_of(page, page[pages::COUNT] as usize)
     }
 
     // The codes of a rectangle on y and on x.

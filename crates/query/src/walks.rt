@@ -19,7 +19,7 @@ pub trait Visitor {
     ghost Visited: { Search → Self → ℕ → ℕ → Self → Type 0 };
 
     fn visit(&mut self, search: &Search<'_>, level: usize, p: usize, n: usize)
-        requires page { SoundPage search.now.table.now p level }
+        requires page { SoundPage search.now.table.words.now p level }
         requires room { n < limit self.old }
         ensures visited { Visited search.now self.old n p self.new }
         ensures limit { limit self.new ≡ limit self.old };
@@ -28,25 +28,25 @@ pub trait Visitor {
 impl Search<'_> {
     // Marks the pieces of a leaf that do not lie beyond the window, where these are the admitted ones.
     fn mark_near(&self, p: usize, marks: &mut Marks)
-        requires page { SoundPage self.now.table.now p 0 }
+        requires page { SoundPage self.now.table.words.now p 0 }
         requires whole { self.now.whole ≡ true }
         ensures { marks.new ≡ marked marks.old (hits_on (admits_in self.now) (table_of self.now) p) }
     {
-        for e in self.entries(p) {
+        for e in self.table.entries(p) {
             marks.mark(e.r, !self.window.is_beyond(e.rect));
         }
     }
 
     // Marks the admitted pieces of a leaf.
     fn mark_leaf(&self, p: usize, marks: &mut Marks)
-        requires { SoundPage self.now.table.now p 0 }
+        requires { SoundPage self.now.table.words.now p 0 }
         ensures { marks.new ≡ marked marks.old (hits_on (admits_in self.now) (table_of self.now) p) }
     {
         if self.whole {
             self.mark_near(p, marks);
             return;
         }
-        for e in self.entries(p) {
+        for e in self.table.entries(p) {
             if !self.window.is_beyond(e.rect) {
                 marks.mark(e.r, self.admits(e.rect));
             }
@@ -55,7 +55,7 @@ impl Search<'_> {
 
     // Opens page p and the pages under it that may hold an admitted piece, and counts them on from n.
     fn walk<V: Visitor>(&self, visitor: &mut V, level: usize, p: usize, n: usize) -> usize
-        requires page { SoundPage self.now.table.now p level }
+        requires page { SoundPage self.now.table.words.now p level }
         requires few { n + length (opened_at self.now level p) ≤ PAGES }
         requires room { n + length (opened_at self.now level p) ≤ V.limit visitor.old }
         ensures count { result ≡ n + length (opened_at self.now level p) }
@@ -67,7 +67,7 @@ impl Search<'_> {
         if level == 0 {
             return count;
         }
-        for e in self.entries(p) {
+        for e in self.table.entries(p) {
             if self.opens(e.rect) {
                 count = self.walk(visitor, level - 1, e.r as usize, count);
             }
@@ -81,8 +81,8 @@ impl Search<'_> {
         ensures count { result ≡ length (opened_in self.now) }
         ensures visited { VisitsAll (V.Visited self.now) visitor.old 0 (opened_in self.now) visitor.new }
     {
-        let root = self.root();
-        let level = self.level(root);
+        let root = self.table.root();
+        let level = self.table.level(root);
         self.walk(visitor, level, root, 0)
     }
 }

@@ -101,5 +101,10 @@ module _ (w : List ℕ) where
       → refuse (number_of why) ≡ cond (ltb (length w) TABLE_WORDS) (refuse TABLE_TOO_SHORT) (cond (sound w) go_on (refuse TABLE_NOT_SOUND))
   err_refused why e refuse go_on = checked_refused w (checked_of (Err why)) e refuse go_on (number-some why)
 
+-- an answer of another type that has the same refusal
+pub refused-as : (w : List ℕ) (why : Refusal) → number_of why ≡ (check_call w).refusal → {A : Type 0} (refuse : ℕ → A) (go_on : A)
+    → refuse (number_of why) ≡ cond (ltb (length w) TABLE_WORDS) (refuse TABLE_TOO_SHORT) (cond (sound w) go_on (refuse TABLE_NOT_SOUND))
+refused-as w why e refuse go_on = ap refuse e ∙ checked_refused w (check_call w) refl refuse go_on (λ z. number-some why (e ∙ z))
+
 pub checked-passed : (w : List ℕ) → TABLE_WORDS ≤ length w → T (sound w) → {A : Type 0} (x y z : A) → cond (ltb (length w) TABLE_WORDS) x (cond (sound w) y z) ≡ y
 checked-passed w l s x y z = rw (le-ltb (length w) TABLE_WORDS l, T_true (sound w) s)

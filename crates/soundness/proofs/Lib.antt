@@ -2,6 +2,7 @@ pub mod Marks
 pub mod Blanks
 pub mod Entries
 pub mod Words
+pub mod Reading
 pub mod Leaves
 pub mod Heads
 pub mod Walks

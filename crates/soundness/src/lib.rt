@@ -10,12 +10,15 @@ ghost use Rattle.pages.specs.Sound.{is, zeros, sound};
 ghost use Rattle.soundness.specs.Calls.{checked_of, check_call};
 ghost use Rattle.soundness.specs.Steps.{Piece, shaped, Head, Tested, LeafTested, Visited, Complete, root_fewest, Rooted};
 
+mod table;
+
 use pages::{
     COUNT, ENTRY_WORDS, Entry, FANOUT, FEWEST, LEVEL, NUMBERS, PAGE_COUNT, PAGE_HEAD, PAGE_WORDS,
     PAGES, PIECE_COUNT, PageEntries, ROOT, ROOT_LEAST, Rect, TABLE_HEAD, TABLE_WORDS, TOP_LEVEL,
 };
 use refusals::{ACCEPTED, Refusal};
 use std::mem;
+pub use table::SoundTable;
 
 /// What C gets of what check returns: a count of 6 is no refusal 6, so they stand apart.
 #[repr(C)]

@@ -4,4 +4,4 @@ use Rattle.finder_bench.specs.Asked.{asked}
 use Rattle.finder_bench.proofs.bench_queries.Given as goal
 
 abbrev pub invariant-loop-words : goal.invariant-loop-words
-invariant-loop-words l = ◌≡◌ {A = ℕ × List ℕ} (l.hits, l.answer) (asked l.table l.references l.clauses l.initial.answer l.words-index)
+invariant-loop-words l = ◌≡◌ {A = ℕ × List ℕ} (l.hits, l.answer) (asked l.table.words.now l.references l.clauses l.initial.answer l.words-index)

@@ -1,18 +1,18 @@
--- Check refuses, or the table is sound; the order of the walk is one of the free ones.
+-- The table is refused, or it is sound; the order of the walk is one of the free ones.
+use mathlib.Core.Path.{subst}
 use Rattle.std.proofs.lemmas.Result.{err_from_is_err_and}
-use Rattle.soundness.proofs.Answers.{ok-sound}
+use Rattle.query.specs.Calls.{opened_of, OpenedWords}
 use Rattle.query.proofs.Whole.{opened-unchecked, opened-listed}
 use Rattle.query.proofs.opened_pages.Goals as goal
 
-pub returns-in_err-check : goal.returns-in_err-check
-returns-in_err-check c =
+pub returns-in_err-table : goal.returns-in_err-table
+returns-in_err-table c =
     let p = err_from_is_err_and c.from_residual.result c.from_residual.ensures.1 in
-    rw (p.1, p.2) (opened-unchecked _ _ c.in_err-check.ensures _ _ _)
-
-pub opened_sound-requires : goal.opened_sound-requires
-opened_sound-requires c = ok-sound _ _ c.in_ok-check.ensures
+    rw (p.1, p.2) (opened-unchecked _ _ c.in_err-table.ensures.refusal _ _ _)
 
 pub returns : goal.returns
 returns c =
-    let s = ok-sound _ _ c.in_ok-check.ensures in
-    opened-listed _ s.0 s.1 _ _ _ _ _ c.opened_sound.ensures
+    let a = c.args in
+    let t = c.in_ok-table.table in
+    let opened = opened_of c.opened_sound.result in
+    subst (λ w. OpenedWords w a.reference a.clauses.now a.answer.now c.opened_sound.new.answer opened) c.in_ok-table.ensures.words (opened-listed _ t.long t.holds _ _ _ _ _ c.opened_sound.ensures)

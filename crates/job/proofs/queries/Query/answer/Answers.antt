@@ -5,8 +5,10 @@ use Rattle.job.proofs.Asking.{hits-of}
 use Rattle.job.proofs.Items.{line-made, answer-left}
 use Rattle.job.proofs.queries.Query.answer.Goals as goal
 
-pub ask-found-requires : goal.ask-found-requires
-ask-found-requires g c = let F = fine_of c.args.table.now c.args.self.now.job.bytes.now _ c.requires.0 in (omega (arith, F.size), F.sound)
+pub invariant_of-table : goal.invariant_of-table
+invariant_of-table g c =
+    let F = fine_of c.args.table.now c.args.self.now.job.bytes.now _ c.requires.0 in
+    record { long = omega (arith, F.size); holds = F.sound }
 
 pub query-requires : goal.query-requires
 query-requires g c = (search rules, (c.requires.2, c.ask-found.auto.answer ∙ c.requires.1, hits-of _ _ _ _ _ _ c.ask-found.ensures))

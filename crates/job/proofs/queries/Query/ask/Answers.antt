@@ -8,5 +8,5 @@ use Rattle.job.proofs.queries.Query.ask.Goals as goal
 pub returns : goal.returns
 returns c = let query = c.args.self.now in let b = query.job.bytes.now in let first = query.start + QUERY_HEAD in
     c.query_sound.ensures
-    ∙ asked_all c.args.table.now _ _ b first (word_at b (query.start + CLAUSE_COUNT_AT)) _ c.args.answer.now c.rect_at.ensures
+    ∙ asked_all c.args.table.words.now _ _ b first (word_at b (query.start + CLAUSE_COUNT_AT)) _ c.args.answer.now c.rect_at.ensures
     (c.as_slice.ensures.value ∙ c.clauses_at-clauses.ensures ∙ ap (λ n. clauses_at b first (min n 9)) c.clause_count.ensures)

@@ -38,13 +38,13 @@ loop-e-init g t c =
       count = omega (arith, ap length above, ap length still);
       visited = λ w v. rw (above, ← still) (visit-first (g.V.Visitor.Visited a.self.now) _ _ _ w _ _ c.visit.ensures.visited v);
       limit = c.visit.ensures.limit;
-      each = subst (Every (λ x. Small x.rect × SoundPage a.self.now.table.now x.r (a.level - 1))) (sym e) (child-entries a.self.now.table.now a.p a.level c.requires.page z);
+      each = subst (Every (λ x. Small x.rect × SoundPage a.self.now.table.words.now x.r (a.level - 1))) (sym e) (child-entries a.self.now.table.words.now a.p a.level c.requires.page z);
     }
 
 pub opens-requires : goal.opens-requires
 opens-requires g t c =
     let a = c.args in
-    (subst (Every (λ x. Small x.rect × SoundPage a.self.now.table.now x.r (a.level - 1))) c.in-Some.ensures.steps c.loop-e.invariant.each).0.0
+    (subst (Every (λ x. Small x.rect × SoundPage a.self.now.table.words.now x.r (a.level - 1))) c.in-Some.ensures.steps c.loop-e.invariant.each).0.0
 
 pub walk-count-requires : goal.walk-count-requires
 walk-count-requires g t c κs within =
@@ -60,7 +60,7 @@ walk-count-requires g t c κs within =
       (
         within,
         (
-          (subst (Every (λ x. Small x.rect × SoundPage a.self.now.table.now x.r (a.level - 1))) s i.each).0.1,
+          (subst (Every (λ x. Small x.rect × SoundPage a.self.now.table.words.now x.r (a.level - 1))) s i.each).0.1,
           (omega (arith, c.requires.few, i.count, n), rw i.limit (omega (arith, c.requires.room, i.count, n))),
         ),
       ),
@@ -81,7 +81,7 @@ loop-e-preserved-then-opens g t c =
       count = omega (arith, i.count, k.count, ap length step, length-append opened rest);
       visited = λ w v. i.visited w (rw step (VisitsAll-append R opened rest _ _ w _ k.visited (rw k.count at v)));
       limit = k.limit ∙ i.limit;
-      each = (subst (Every (λ x. Small x.rect × SoundPage a.self.now.table.now x.r (a.level - 1))) s i.each).1;
+      each = (subst (Every (λ x. Small x.rect × SoundPage a.self.now.table.words.now x.r (a.level - 1))) s i.each).1;
     }
 
 pub loop-e-preserved : goal.loop-e-preserved
@@ -95,7 +95,7 @@ loop-e-preserved g t c =
       count = omega (arith, i.count, ap length step);
       visited = λ w v. i.visited w (rw step v);
       limit = i.limit;
-      each = (subst (Every (λ x. Small x.rect × SoundPage a.self.now.table.now x.r (a.level - 1))) s i.each).1;
+      each = (subst (Every (λ x. Small x.rect × SoundPage a.self.now.table.words.now x.r (a.level - 1))) s i.each).1;
     }
 
 pub returns-clause-count : goal.returns-clause-count

@@ -19,5 +19,5 @@ invariant-loop-e g l =
       count : l.count + length still ≡ l.n + length (opened_at l.self l.level l.p);
       visited : (w : _) → VisitsAll (g.V.Visitor.Visited l.self) l.visitor l.count still w → VisitsAll (g.V.Visitor.Visited l.self) l.fn.visitor l.n (opened_at l.self l.level l.p) w;
       limit : g.V.Visitor.limit l.visitor ≡ g.V.Visitor.limit l.fn.visitor;
-      each : Every (λ e. Small e.rect × SoundPage l.self.table.now e.r (l.level - 1)) (left l.e-iterator);
+      each : Every (λ e. Small e.rect × SoundPage l.self.table.words.now e.r (l.level - 1)) (left l.e-iterator);
     }

@@ -10,23 +10,23 @@ use Rattle.query.proofs.searches.Search.run.Goals as goal
 
 pub level-level-requires : goal.level-level-requires
 level-level-requires g c =
-    let s = c.args.self.now in
-    root-inside _ s.words s.holds _ 0 c.root-root.ensures
+    let s = c.args.self.now.table in
+    root-inside _ s.long s.holds _ 0 c.root-root.ensures
 
 pub walk-requires-clause-page : goal.walk-requires-clause-page
 walk-requires-clause-page g c =
-    let s = c.args.self.now in
-    root-page _ s.words s.holds _ _ c.root-root.ensures c.level-level.ensures
+    let s = c.args.self.now.table in
+    root-page _ s.long s.holds _ _ c.root-root.ensures c.level-level.ensures
 
 pub walk-requires-clause-few : goal.walk-requires-clause-few
 walk-requires-clause-few g c =
     let s = c.args.self.now in
-    omega (arith, root-few _ s.words s.holds _ _ c.root-root.ensures (opens_in s) c.level-level.ensures)
+    omega (arith, root-few _ s.table.long s.table.holds _ _ c.root-root.ensures (opens_in s) c.level-level.ensures)
 
 pub walk-requires-clause-room : goal.walk-requires-clause-room
 walk-requires-clause-room g c =
     let s = c.args.self.now in
-    le_trans (root-room _ s.words s.holds _ _ c.root-root.ensures (opens_in s) c.level-level.ensures) c.requires
+    le_trans (root-room _ s.table.long s.table.holds _ _ c.root-root.ensures (opens_in s) c.level-level.ensures) c.requires
 
 pub returns-clause-count : goal.returns-clause-count
 returns-clause-count g c =
