@@ -2,66 +2,68 @@
 // Standard input has the number of tables, then for each table a line: its name, how many words the slice has, and how many runs
 // of words change. For each run a line follows: its first index, its size and its words. A table starts as the one before it ended,
 // the first from zeros.
+// Nothing is refused: past the end of the text numbers are 0 and names empty, and words past the end of the slice change nothing.
 #![tactic(auto)]
 
 use soundness::Checked;
-use std::io::{Cursor, ErrorKind};
-use std::str::SplitAsciiWhitespace;
-use std::{io, str};
+use std::io;
+use std::io::{Cursor, Read};
+use std::slice::Iter;
 
 // Room for words after the table.
 const ROOM: usize = 14_400;
 
+// Bytes after these are not read.
 const TEXT: usize = 65_536;
 
-fn field<'a>(fields: &mut SplitAsciiWhitespace<'a>) -> io::Result<&'a str> {
-    Ok(fields.next().ok_or(ErrorKind::UnexpectedEof)?)
+// The digits, modulo 2^32. The one byte after them, whatever it is, is passed over.
+fn number(text: &mut Iter<'_, u8>) -> u32 {
+    text.take_while(|byte| byte.is_ascii_digit()).fold(
+        0,
+        |value: u32, digit| value.wrapping_mul(10).wrapping_add((digit - b'0') as u32),
+    )
 }
 
-fn number(fields: &mut SplitAsciiWhitespace<'_>) -> io::Result<u32> {
-    Ok(field(fields)?.parse().map_err(|_| ErrorKind::InvalidData)?)
+// The bytes up to a space, which is passed over. Where no space follows, none of them.
+fn name<'a>(text: &mut Iter<'a, u8>) -> &'a [u8] {
+    let bytes = text.as_slice();
+    text.position(|byte| *byte == b' ')
+        .and_then(|end| bytes.get(..end))
+        .unwrap_or_default()
 }
 
 // Takes over one run of words.
-fn change_run(words: &mut [u32], fields: &mut SplitAsciiWhitespace<'_>) -> io::Result<()> {
-    let first = number(fields)? as usize;
-    let size = number(fields)? as usize;
-    let run = words
-        .get_mut(first..first + size)
-        .ok_or(ErrorKind::InvalidData)?;
-    for word in run {
-        *word = number(fields)?;
+fn change_run(words: &mut [u32], text: &mut Iter<'_, u8>) {
+    let first = number(text) as usize;
+    let size = number(text) as usize;
+    for i in first..first + size {
+        let value = number(text);
+        if let Some(word) = words.get_mut(i) {
+            *word = value;
+        }
     }
-    Ok(())
 }
 
-fn print_table(
-    rt: &impl Print,
-    words: &mut [u32],
-    fields: &mut SplitAsciiWhitespace<'_>,
-) -> io::Result<()> {
-    let name = field(fields)?;
-    let length = number(fields)? as usize;
-    for _ in 0..number(fields)? {
-        change_run(words, fields)?;
+fn print_table(rt: &impl Print, words: &mut [u32], text: &mut Iter<'_, u8>) -> io::Result<()> {
+    rt.write_all(name(text))?;
+    let length = number(text) as usize;
+    for _ in 0..number(text) {
+        change_run(words, text);
     }
-    let table = words.get(..length).ok_or(ErrorKind::InvalidData)?;
-    let checked = Checked::from(soundness::check(table));
-    println!(rt; "{name} {} {}", checked.refusal, checked.pieces)
+    if let Some(table) = words.get(..length) {
+        let checked = Checked::from(soundness::check(table));
+        print!(rt; " {} {}", checked.refusal, checked.pieces)?;
+    }
+    println!(rt)
 }
 
 fn main(rt: HostRuntime) -> io::Result<()> {
     let mut read = Cursor::new([0; TEXT]);
-    io::copy(&mut rt.reader(), &mut read)?;
-    let bytes = read
-        .get_ref()
-        .get(..read.position() as usize)
-        .ok_or(ErrorKind::InvalidData)?;
-    let text = str::from_utf8(bytes).map_err(|_| ErrorKind::InvalidData)?;
-    let mut fields = text.split_ascii_whitespace();
+    let length = io::copy(&mut rt.reader().take(TEXT as u64), &mut read)?;
+    let mut text = read.get_ref()[..TEXT.min(length as usize)].iter();
     let mut words = [0; ROOM];
-    for _ in 0..number(&mut fields)? {
-        print_table(&rt, &mut words, &mut fields)?;
+    for _ in 0..number(&mut text) {
+        print_table(&rt, &mut words, &mut text)?;
     }
     Ok(())
 }

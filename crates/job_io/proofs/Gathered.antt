@@ -7,9 +7,13 @@ use native.Mathlib.Numerals.{add-one}
 use borrow.Author.Tests.{le-leb, lt-leb, leb-true, leb-false}
 use lib.ListN.{length}
 use lib.Dec.{T, leb}
-use Rattle.std.proofs.Common.{◌⊎◌, inl, inr, Some, None, IfSome}
+use Rattle.std.proofs.Common.{inl, inr, Some, None, Result, Ok, Err, IfOk, OnErr, arith, take, length-append, length-take-le}
+use Rattle.std.proofs.lemmas.List.{take-append-le, take_all}
+use Rattle.std.proofs.Math.Seq.{take-append-add}
+use Rattle.std.specs.Result.{result_unwrap_or}
+use borrow.Rule.Slice.PartMut.{put_mid}
 use Rattle.std.specs.declared.option.Option.{Option}
-use Rattle.std.specs.Io.KnownBytes.{append_known, Appends, Keeps}
+use Rattle.std.specs.Io.KnownBytes.{append_known, Appends, Consumes, IsAtEnd, Keeps}
 use Rattle.std.proofs.KnownBytes.{Appends-trans, append_known-grown, Keeps-refl}
 use Rattle.job.specs.Sizes.{JOB_BYTES, LINE_BYTES}
 use Rattle.job.specs.Output.{bad_job}
@@ -121,12 +125,33 @@ all-bad b writer old new bad e =
     subst (Appends (append_known writer old) (append_known writer new)) (sym (claimed.bad b bad))
     (append_known-grown (append_known writer old) writer old new bad_job (Keeps-refl (append_known writer old)) e)
 
--- the bytes that were read are the input, or as many as no job has
-pub printed : (read : List ℕ) (input old new : Option (List ℕ)) → (length read ≤ JOB_BYTES → IfSome input (λ b. read ≡ b)) → Appends old new (output read)
-    → Printed input old new
-printed read None old new whole all = tt
-printed read (Some b) old new whole all = go (leb (length read) JOB_BYTES) refl
+-- bytes that fill the slice are the front of an input that no job is; fewer are the input
+pub printed : (read : List ℕ) (input left old new : Option (List ℕ)) (failed : Type 0) → Consumes input left read → (length read ≤ JOB_BYTES → IsAtEnd left)
+    → Appends old new (output read) → Printed input failed old new
+printed read None left old new failed all at_end text = tt
+printed read (Some b) None old new failed all at_end text = absurd all
+printed read (Some b) (Some rest) old new failed all at_end text = inl (subst (Appends old new) (go (leb (length read) JOB_BYTES) refl) text)
   where
-    go : (t : Bool) → leb (length read) JOB_BYTES ≡ t → Appends old new (output b) ⊎ Appends old new bad_job
-    go true h = inl (subst (λ l. Appends old new (output l)) (whole (leb-true (length read) JOB_BYTES h)) all)
-    go false h = inr (subst (Appends old new) (claimed.bad read (sym (too_long read (leb-false (length read) JOB_BYTES h)))) all)
+    go : (t : Bool) → leb (length read) JOB_BYTES ≡ t → output read ≡ output b
+    go true h = ap output (sym (all ∙ ap (λ l. read ++ l) (at_end (leb-true (length read) JOB_BYTES h)) ∙ append-nil read))
+    go false h =
+        let long = leb-false (length read) JOB_BYTES h in
+        claimed.bad read (sym (too_long read long)) ∙ sym (claimed.bad b (sym (too_long b (rw (all, length-append read rest) (omega (arith, long))))))
+
+-- the same of what a reading gave: after a failed read as many bytes are taken as no job has
+pub printed_of : {E : Type 0} (r : Result ℕ E) (n size : ℕ) (bytes : List ℕ) (input left old new : Option (List ℕ)) (failed : Type 0)
+    → length bytes ≡ size → JOB_BYTES < size → n ≡ result_unwrap_or r size → IfOk r (λ m. m ≤ length bytes) → IfOk r (λ m. Consumes input left (take m bytes))
+    → IfOk r (λ m. m < length bytes → IsAtEnd left) → OnErr r failed → Appends old new (output (take n bytes)) → Printed input failed old new
+printed_of (Ok m) n size bytes input left old new failed whole long e within all at_end fails text =
+    printed (take m bytes) input left old new failed all (λ h. at_end (omega (arith, h, length-take-le m bytes within, whole, long)))
+    (subst (λ k. Appends old new (output (take k bytes))) e text)
+printed_of (Err x) n size bytes None left old new failed whole long e within all at_end fails text = tt
+printed_of (Err x) n size bytes (Some b) left old new failed whole long e within all at_end fails text =
+    inr (fails, subst (Appends old new) (ap output (ap (λ k. take k bytes) e ∙ take_all size bytes (omega (arith, whole))) ∙ claimed.bad bytes (sym (too_long bytes (omega (arith, whole, long))))) text)
+
+-- a read takes what it gives, behind what was read
+pub take-more : (n more k : ℕ) (bytes rest : List ℕ) → n ≤ length bytes → more ≤ length rest → take (n + more) (put_mid n k bytes rest) ≡ take n bytes ++ take more rest
+take-more n more k bytes rest inside within =
+    let all = put_mid n k bytes rest in
+    ap (λ m. take (m + more) all) (sym (length-take-le n bytes inside)) ∙ take-append-add (take n bytes) _ more
+    ∙ ap (λ l. take n bytes ++ l) (take-append-le more rest _ within)

@@ -5,6 +5,7 @@ use Rattle.std.specs.Io.KnownBytes.{Appends}
 use Rattle.job.specs.Output.{bad_job}
 use Rattle.job.specs.Words.{output}
 
--- the output of the input, or what a bad job prints: meant for a failed read, of which this does not speak
-abbrev pub Printed : Option (List ℕ) → Option (List ℕ) → Option (List ℕ) → Type 0
-Printed input old new = IfSome input (λ b. Appends old new (output b) ⊎ Appends old new bad_job)
+-- The output of the input; or, only after a failed read, what a bad job prints. `run` is proved for whatever `failed` is, so that only a
+-- read that did fail can give it. Of std's readers nothing is known then: theirs is ⊤.
+abbrev pub Printed : Option (List ℕ) → Type 0 → Option (List ℕ) → Option (List ℕ) → Type 0
+Printed input failed old new = IfSome input (λ b. Appends old new (output b) ⊎ (failed × Appends old new bad_job))

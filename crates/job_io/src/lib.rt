@@ -1,8 +1,9 @@
 // Running a job: its bytes read from a reader, its output written to a writer.
 #![tactic(auto)]
 
-ghost use Rattle.std.specs.Prelude.{◌≡◌, ◌+◌, ◌≤◌, ◌<◌, [], length, take, IfSome, OnOk};
-ghost use Rattle.std.specs.Io.KnownBytes.{append_known, Appends, Consumes, Keeps, IsAtEnd};
+ghost use Rattle.std.specs.Prelude.{◌≡◌, ◌+◌, ◌≤◌, ◌<◌, [], length, take, ⊤, IfOk, OnOk, OnErr};
+ghost use Rattle.std.specs.Io.{ReadsAtMost};
+ghost use Rattle.std.specs.Io.KnownBytes.{append_known, Appends, Consumes, Keeps, IsAtEnd, ReadConsumes};
 ghost use Rattle.pages.specs.Calls.{empty_words};
 ghost use Rattle.job.specs.Sizes.{LINE_BYTES};
 ghost use Rattle.job.specs.Words.{piece_count, query_count, output};
@@ -11,7 +12,7 @@ ghost use Rattle.job_io.specs.Gathered.{kept, held_pieces, held_queries, held_at
 ghost use Rattle.job_io.specs.Printed.{Printed};
 
 use job::{JOB_BYTES, Job, LINE_BYTES, Lines};
-use pages::{PIECES, TABLE_WORDS};
+use pages::{NUMBERS, TABLE_WORDS};
 use std::io;
 use std::io::{Read, Write};
 
@@ -21,31 +22,41 @@ const BUFFER_BYTES: usize = 16_384;
 
 const READ_BYTES: usize = JOB_BYTES + 1;
 
-const ANSWER_WORDS: usize = PIECES as usize;
+// What a job is read from: any reader. std's contract of a read does not say when one fails. `failed` stands for whatever is known
+// of a reader after a failed read, so that what follows can say what is done only then.
+pub trait Source: Read {
+    ghost failed: { Self → Type 0 };
 
-// One read. A failed one counts as one that fills the slice, so that the job is too long.
-fn read_some<R: Read>(from: &mut R, rest: &mut [u8]) -> usize
-    ensures within { result ≤ length rest.new }
-    ensures bytes { result < length rest.new → Consumes (R.remaining from.old) (R.remaining from.new) (take result rest.new) }
-    ensures end { result < length rest.new → result ≡ 0 → IsAtEnd (R.remaining from.new) }
-{
-    from.read(rest).unwrap_or(rest.len())
+    fn read_some(&mut self, rest: &mut [u8]) -> io::Result<usize>
+        ensures bound { ReadsAtMost result rest.new }
+        ensures bytes { ReadConsumes (Self.remaining self.old) (Self.remaining self.new) result rest.new }
+        ensures failure { OnErr result (failed self.new) };
+}
+
+impl<R: Read> Source for R {
+    ghost failed = { λ _. ⊤ };
+
+    fn read_some(&mut self, rest: &mut [u8]) -> io::Result<usize> {
+        self.read(rest)
+    }
 }
 
 // How many bytes there are up to the end of the input, or as many as `bytes` has.
-fn read_all<R: Read>(from: &mut R, bytes: &mut [u8]) -> usize
-    ensures within { result ≤ length bytes.new }
-    ensures input { result < length bytes.new → IfSome (R.remaining from.old) (λ input. take result bytes.new ≡ input) }
+fn read_all<R: Source>(from: &mut R, bytes: &mut [u8]) -> io::Result<usize>
+    ensures within { IfOk result (λ n. n ≤ length bytes.new) }
+    ensures read { IfOk result (λ n. Consumes (R.remaining from.old) (R.remaining from.new) (take n bytes.new)) }
+    ensures end { IfOk result (λ n. n < length bytes.new → IsAtEnd (R.remaining from.new)) }
+    ensures failure { OnErr result (R.failed from.new) }
 {
     let mut n = 0;
     while n < bytes.len() {
-        let more = read_some(from, &mut bytes[n..]);
+        let more = from.read_some(&mut bytes[n..])?;
         if more == 0 {
-            return n;
+            return Ok(n);
         }
         n += more;
     }
-    n
+    Ok(n)
 }
 
 // Lines on their way to a writer.
@@ -119,7 +130,7 @@ fn answer_queries<W: Write>(job: &Job, table: &[u32], out: &mut Output<W>) -> io
     ensures all { OnOk result (Appends (append_known (W.contents out.old.to.now) out.old.lines)
         (append_known (W.contents out.new.to.now) out.new.lines) (lines_to (query_line_at job.now.bytes.now) (query_count job.now.bytes.now))) }
 {
-    let mut answer = [0u16; ANSWER_WORDS];
+    let mut answer = [0u16; NUMBERS];
     for query in job.queries() {
         out.make_room()?;
         query.answer(table, &mut answer, &mut out.lines);
@@ -154,11 +165,11 @@ fn print_job<W: Write>(bytes: &[u8], to: &mut W) -> io::Result<()>
     out.flush()
 }
 
-// Reads a job to its end, and writes what it prints.
-pub fn run<R: Read, W: Write>(from: &mut R, to: &mut W) -> io::Result<()>
-    ensures { OnOk result (Printed (R.remaining from.old) (W.contents to.old) (W.contents to.new)) }
+// Reads a job to its end, and writes what it prints. After a failed read that is what a job prints that is too long.
+pub fn run<R: Source, W: Write>(from: &mut R, to: &mut W) -> io::Result<()>
+    ensures { OnOk result (Printed (R.remaining from.old) (R.failed from.new) (W.contents to.old) (W.contents to.new)) }
 {
     let mut bytes = [0u8; READ_BYTES];
-    let n = read_all(from, &mut bytes);
+    let n = read_all(from, &mut bytes).unwrap_or(READ_BYTES);
     print_job(&bytes[..n], to)
 }
