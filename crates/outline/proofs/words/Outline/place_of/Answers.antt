@@ -1,18 +1,9 @@
 -- Each edge of the walk by what it says of the point.
 use mathlib.Core.Path.{sym, ap, ◌∙◌}
 use mathlib.Core.Bool.{Bool, cond}
-use mathlib.Core.List.{List}
-use Rattle.outline.specs.declared.Edge.{Edge}
 use Rattle.outline.specs.declared.Place.{Place}
-use Rattle.outline.specs.Place.{on_any, crossings, odd}
 use Rattle.outline.proofs.Walking.{on-stop, on-more, parity-more, place-on, place-end}
 use Rattle.outline.proofs.words.Outline.place_of.Goals as goal
-
-pub loop-edge-init : goal.loop-edge-init
-loop-edge-init c =
-    let p = c.args.p.now in
-    let begun = c.into_iter-edge-iterator.ensures.into_iter_gives ∙ c.edges-edge-items.ensures.edges in
-    record { on = ap (λ (es : List Edge). on_any es p) begun; parity = ap (λ (es : List Edge). odd (crossings es p)) begun }
 
 pub returns-in-None-met_by : goal.returns-in-None-met_by
 returns-in-None-met_by c =

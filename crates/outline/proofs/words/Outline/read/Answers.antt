@@ -3,12 +3,6 @@ use mathlib.Core.Path.{sym, ◌∙◌}
 use Rattle.outline.specs.Refusals.{outline_refusal}
 use Rattle.outline.proofs.words.Outline.read.Goals as goal
 
-pub returns-then-not-are_within : goal.returns-then-not-are_within
-returns-then-not-are_within c = simp (sym c.is_wrong_count.ensures ∙ c.if-is_wrong_count.false, sym c.are_within.ensures ∙ c.if-not-are_within.true)
-
 pub invariant_of-result : goal.invariant_of-result
 unfolding outline_refusal
 invariant_of-result c = simp (sym c.is_wrong_count.ensures ∙ c.if-is_wrong_count.false, sym c.are_within.ensures ∙ c.if-not-are_within.false)
-
-pub returns : goal.returns
-returns c = simp (sym c.is_wrong_count.ensures ∙ c.if-is_wrong_count.false, sym c.are_within.ensures ∙ c.if-not-are_within.false)
