@@ -12,7 +12,7 @@ use borrow.Author.Tests.{ne_eqb}
 use Rattle.std.specs.Prelude.{Err}
 use Rattle.refusals.specs.declared.Refusal.{Refusal}
 use Rattle.refusals.specs.Numbers.{number_of}
-use Rattle.relations.proofs.Answer.{number-some}
+use Rattle.refusals.proofs.Numbers.{number-some}
 use Rattle.pages.specs.declared.Rect.{Rect}
 use Rattle.pages.specs.Sizes.{TABLE_WORDS}
 use Rattle.pages.specs.Refusals.{ACCEPTED, TABLE_TOO_SHORT, TABLE_NOT_SOUND}
