@@ -8,7 +8,7 @@ use lib.Dec.{T}
 use Rattle.std.proofs.Common.{Result, Ok, Err, IsOk}
 use Rattle.refusals.specs.declared.Refusal.{Refusal}
 use Rattle.refusals.specs.Numbers.{refusal_of}
-use Rattle.relations.proofs.Answer.{number-some}
+use Rattle.refusals.proofs.Numbers.{number-some}
 use Rattle.pages.specs.declared.Rect.{Rect}
 use Rattle.pages.specs.Sizes.{TABLE_WORDS}
 use Rattle.pages.specs.Sound.{sound}

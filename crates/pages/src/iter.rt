@@ -5,7 +5,7 @@ ghost use Rattle.pages.specs.Sizes.{FANOUT};
 
 use super::{Entry, PAGE_WORDS, Rect, entry_of};
 
-// The entries from place `next` up to `end`.
+// The entries from place `next` up to `end`; a copy goes over them again.
 #[derive(Clone, Copy)]
 pub struct PageEntries<'a> {
     pub(crate) page: &'a [u32; PAGE_WORDS],

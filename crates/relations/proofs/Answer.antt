@@ -10,8 +10,8 @@ use lib.ListN.{length, replicate}
 use Rattle.std.specs.Prelude.{Ok, Err, [], ◌∷◌}
 use Rattle.std.specs.List.{fold, list_any}
 use Rattle.refusals.specs.declared.Refusal.{Refusal}
-use Rattle.refusals.specs.declared.Refusal.TheVariants.{TableTooShort, RectangleNotValid, NumberTooLarge, ClauseCount, ClauseNotValid, TableNotSound, AlreadyStanding, AnswerTooShort, PointCount, CoordinateTooLarge}
 use Rattle.refusals.specs.Numbers.{number_of}
+use Rattle.refusals.proofs.Numbers.{number-some}
 use Rattle.relations.specs.declared.RowSets.{RowSets}
 use borrow.Author.Tests.{ne_eqb, lt-ltb, le-ltb}
 use Rattle.relations.specs.declared.AdmittedSet.{AdmittedSet}
@@ -40,21 +40,6 @@ pub some-bad : (cs : List ℕ) → list_any bad_clause cs ≡ some_bad cs
 unfolding some_bad
 some-bad [] = refl
 some-bad (c ∷ cs) = ap (λ (b : Bool). bad_clause c || b) (some-bad cs)
-
--- a refusal has another number than an accepted call
-pub number-some : (e : Refusal) → number_of e ≡ 0 → ⊥
-number-some e = elim e as (λ r. number_of r ≡ 0 → ⊥) [
-  | TableTooShort ↦ λ z. cc
-  | RectangleNotValid ↦ λ z. cc
-  | NumberTooLarge ↦ λ z. cc
-  | ClauseCount ↦ λ z. cc
-  | ClauseNotValid ↦ λ z. cc
-  | TableNotSound ↦ λ z. cc
-  | AlreadyStanding ↦ λ z. cc
-  | AnswerTooShort ↦ λ z. cc
-  | PointCount ↦ λ z. cc
-  | CoordinateTooLarge ↦ λ z. cc
-]
 
 -- ---- rows and count
 

@@ -11,8 +11,8 @@ use lib.Dec.{T, ltb}
 use borrow.Author.Tests.{lt-ltb, le-ltb}
 use Rattle.std.specs.Prelude.{Ok, Err}
 use Rattle.refusals.specs.declared.Refusal.{Refusal}
-use Rattle.refusals.specs.declared.Refusal.TheVariants.{TableTooShort, RectangleNotValid, NumberTooLarge, ClauseCount, ClauseNotValid, TableNotSound, AlreadyStanding, AnswerTooShort, PointCount, CoordinateTooLarge}
 use Rattle.refusals.specs.Numbers.{number_of}
+use Rattle.refusals.proofs.Numbers.{number-some}
 use Rattle.pages.specs.Sizes.{TABLE_WORDS}
 use Rattle.pages.specs.Refusals.{ACCEPTED, TABLE_TOO_SHORT, TABLE_NOT_SOUND}
 use Rattle.pages.specs.Layout.{table_in}
@@ -79,18 +79,6 @@ module _ (w : List ℕ) (c : Checked) (e : c ≡ check_call w) where
       ap (λ x. refuse x.refusal) e
       ∙ answers w (λ r. r.refusal ≢ ACCEPTED → refuse r.refusal ≡ cond (ltb (length w) TABLE_WORDS) (refuse TABLE_TOO_SHORT) (cond (sound w) go_on (refuse TABLE_NOT_SOUND)))
       (λ l m. rw (lt-ltb (length w) TABLE_WORDS l)) (λ l u m. rw (le-ltb (length w) TABLE_WORDS l, T_false (sound w) u)) (λ l s m. absurd (m refl)) (λ z. n (ap (λ x. x.refusal) e ∙ z))
-
-number-some : (why : Refusal) → number_of why ≢ ACCEPTED
-number-some TableTooShort e = absurd (omega arith)
-number-some RectangleNotValid e = absurd (omega arith)
-number-some NumberTooLarge e = absurd (omega arith)
-number-some ClauseCount e = absurd (omega arith)
-number-some ClauseNotValid e = absurd (omega arith)
-number-some TableNotSound e = absurd (omega arith)
-number-some AlreadyStanding e = absurd (omega arith)
-number-some AnswerTooShort e = absurd (omega arith)
-number-some PointCount e = absurd (omega arith)
-number-some CoordinateTooLarge e = absurd (omega arith)
 
 -- the same at the two ways on from a `?`
 module _ (w : List ℕ) where

@@ -2,7 +2,7 @@
 use native.Mathlib.Omega.{arith}
 use mathlib.Core.Path.{sym, ap, ◌∙◌}
 use Rattle.std.proofs.lemmas.Result.{err_from_is_err_and}
-use Rattle.relations.proofs.Answer.{number-some}
+use Rattle.refusals.proofs.Numbers.{number-some}
 use Rattle.query.specs.declared.walks.Lister.{Lister}
 use Rattle.query.specs.Calls.{sound_refusal}
 use Rattle.query.proofs.Calls.{accepted, opened-refused, opened-accepted, opened-is, few-opened, opened-fits, opened-writes}

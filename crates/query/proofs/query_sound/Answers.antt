@@ -4,7 +4,7 @@ use mathlib.Core.Path.{sym, ap, ◌∙◌}
 use lib.ListN.{length}
 use Rattle.std.proofs.lemmas.Result.{err_from_is_err_and}
 use Rattle.pages.proofs.Whole.{sound-in}
-use Rattle.relations.proofs.Answer.{number-some}
+use Rattle.refusals.proofs.Numbers.{number-some}
 use Rattle.query.specs.Calls.{sound_refusal}
 use Rattle.query.proofs.Calls.{accepted, query-refused, query-accepted, opened-is, few-opened, lists}
 use Rattle.query.proofs.query_sound.Goals as goal

@@ -1,7 +1,8 @@
 -- Each test decides the chain of tests.
 use mathlib.Core.Path.{sym, ◌∙◌}
 use Rattle.std.proofs.lemmas.Result.{err_from_is_err_and}
-use Rattle.relations.proofs.Answer.{number-some, err-number, ok-zero, ok-rows}
+use Rattle.refusals.proofs.Numbers.{number-some}
+use Rattle.relations.proofs.Answer.{err-number, ok-zero, ok-rows}
 use Rattle.query.proofs.Calls.{refused-rectangle, refused-clauses, refused-size, accepted-all}
 use Rattle.query.proofs.set_of.Goals as goal
 
