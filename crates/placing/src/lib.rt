@@ -177,7 +177,6 @@ fn place_words(table: &mut [u32; TABLE_WORDS], number: u32, rect: Rect)
 }
 
 // A place call on a sound table.
-#[tactic(auto, using(crate::proofs::Called::call_too_large))]
 pub fn place_sound(table: &mut [u32], number: u32, rect: Rect) -> Result<(), Refusal>
     requires { (TABLE_WORDS ≤ length table.old) × T (sound table.old) }
     ensures { (refusal_of result, table.new) ≡ place_sound table.old number rect }

@@ -5,11 +5,14 @@ use Rattle.pages.specs.Refusals.{ACCEPTED}
 use Rattle.pages.proofs.Lists.{true-T}
 use Rattle.placing.proofs.Searching.{some-held, none-held}
 use Rattle.placing.proofs.Joined.{head_in, held-in}
-use Rattle.placing.proofs.Called.{call-not-valid, call-stands, call-done}
+use Rattle.placing.proofs.Called.{call-not-valid, call_too_large, call-stands, call-done}
 use Rattle.placing.proofs.place_sound.Goals as goal
 
 pub returns-then-not-is_valid : goal.returns-then-not-is_valid
 returns-then-not-is_valid c = call-not-valid _ _ _ (sym c.is_valid.ensures ∙ c.if-not-is_valid.true)
+
+pub returns-then-number-ge-PIECES : goal.returns-then-number-ge-PIECES
+returns-then-number-ge-PIECES c = call_too_large _ _ _ (sym c.is_valid.ensures ∙ c.if-not-is_valid.false) c.if-number-ge-PIECES.true
 
 pub stands-requires : goal.stands-requires
 stands-requires c =
