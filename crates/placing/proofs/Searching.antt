@@ -1,23 +1,22 @@
 -- A number stands exactly when some page holds it; a page whose eight places do not have it does not hold it.
 use Prim.Native.Nat.{ℕ, zero, suc, ◌+◌, ◌-◌, ◌≤◌, ◌<◌}
 use native.Mathlib.Omega.{arith}
-use native.Mathlib.Nat.{add-zero, add-suc}
+use native.Mathlib.Nat.{add-zero, zero-add, add-suc}
 use mathlib.Core.Path.{◌≡◌, refl, sym, ap, subst, ◌∙◌}
-use mathlib.Core.Bool.{Bool, true, false, ◌&&◌, cond}
+use mathlib.Core.Bool.{Bool, true, false, ◌&&◌, ◌||◌, cond}
 use mathlib.Core.List.{List, [], ◌∷◌}
 use lib.ListN.{length, get_or}
 use lib.Dec.{ltb, eqb}
-use borrow.Author.Tests.{ltb-true, ltb-false, lt-ltb, eq-eqb}
+use borrow.Author.Tests.{ltb-true, ltb-false, lt-ltb}
 use Rattle.pages.specs.Sizes.{FANOUT}
 use Rattle.pages.specs.Lists.{one, sum, sum_below}
 use Rattle.pages.specs.Layout.{page_words}
 use Rattle.pages.specs.Sound.{is}
 use Rattle.pages.specs.Readers.{entry_in, entries_in}
 use Rattle.pages.proofs.Lists.{sum-append}
-use Rattle.pages.proofs.Entries.{is-not}
 use Rattle.pages.proofs.Below.{below-same, below-const, below_at}
 use Rattle.std.specs.Bool.{MatchBool}
-use Rattle.std.specs.List.{range_with_len, HoldsAt, AllWithin}
+use Rattle.std.specs.List.{list_any, range_with_len, HoldsAt, AllWithin}
 use Rattle.std.proofs.lemmas.List.FromFn.{length-range_with_len, get_or-range_with_len}
 use Rattle.pages.specs.declared.Entry.{Entry}
 use Rattle.placing.specs.Steps.{count_in, held_in, held_below}
@@ -26,14 +25,14 @@ held-last : (w : List ℕ) (c n : ℕ) → sum (is c) (entries_in w (suc n)) ≡
 unfolding entries_in
 held-last w c n = omega (arith, sum-append (is c) (entries_in w n) (entry_in w n ∷ []))
 
--- the entries of a page's words, place by place
-held-places : (w : List ℕ) (c n : ℕ) → sum (is c) (entries_in w n) ≡ sum_below n (λ i. is c (entry_in w i))
-unfolding entries_in
-held-places w c zero = refl
-held-places w c (suc n) = omega (arith, held-last w c n, held-places w c n)
-
-is-one : (c : ℕ) (e : Entry) → e.r ≡ c → 0 < is c e
-is-one c e h = omega (arith, ap one (eq-eqb e.r c h))
+-- `any` over entries: whether one has the r c
+pub ref-any : (c : ℕ) (es : List Entry) → list_any (λ e. eqb e.r c) es ≡ ltb 0 (sum (is c) es)
+ref-any c [] = refl
+ref-any c (e ∷ es) = go (eqb e.r c) (ref-any c es)
+  where
+    go : (b : Bool) → list_any (λ e. eqb e.r c) es ≡ ltb 0 (sum (is c) es) → (b || list_any (λ e. eqb e.r c) es) ≡ ltb 0 (one b + sum (is c) es)
+    go true p = sym (lt-ltb 0 (1 + sum (is c) es) (omega arith))
+    go false p = p ∙ ap (ltb 0) (sym (zero-add (sum (is c) es)))
 
 -- `any` over the numbers below n says whether some summand is above 0
 module _ (n : ℕ) (f : ℕ → ℕ) (Yes No : ℕ → Type 0) (yes : (i : ℕ) → Yes i → 0 < f i) (no : (i : ℕ) → No i → f i ≡ 0) where
@@ -55,13 +54,7 @@ module _ (n : ℕ) (f : ℕ → ℕ) (Yes No : ℕ → Type 0) (yes : (i : ℕ) 
       sym (lt-ltb 0 (sum_below n f) (some k m (subst Yes (at k m) (h 0))))
   any-below false h = rw (none (λ i l. subst No (at i l) (h i 0 (omega arith) (omega (arith, length-range_with_len 0 n)))))
 
--- of the entries of a page's words, and of the pages
-pub ref-any : (w : List ℕ) (c n : ℕ) (r : Bool) → MatchBool r ((k : ℕ) × (k < length (range_with_len 0 n)) × HoldsAt (λ i. (entry_in w i).r ≡ c) (range_with_len 0 n) k)
-    (AllWithin (λ i. (entry_in w i).r ≡ c → ⊥) (range_with_len 0 n) 0 (length (range_with_len 0 n))) → r ≡ ltb 0 (sum (is c) (entries_in w n))
-ref-any w c n r h =
-    any-below n (λ i. is c (entry_in w i)) (λ i. (entry_in w i).r ≡ c) (λ i. (entry_in w i).r ≡ c → ⊥) (λ i. is-one c (entry_in w i)) (λ i. is-not c (entry_in w i)) r h
-    ∙ ap (ltb 0) (sym (held-places w c n))
-
+-- of the pages
 pub held-any : (t : List ℕ) (c k : ℕ) (r : Bool) → MatchBool r ((p : ℕ) × (p < length (range_with_len 0 k)) × HoldsAt (λ p. ltb 0 (held_in (page_words t p) c) ≡ true) (range_with_len 0 k) p)
     (AllWithin (λ p. ltb 0 (held_in (page_words t p) c) ≡ false) (range_with_len 0 k) 0 (length (range_with_len 0 k))) → r ≡ ltb 0 (held_below t c k)
 unfolding held_below

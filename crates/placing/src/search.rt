@@ -3,18 +3,17 @@ ghost use Rattle.std.specs.Prelude.{◌≡◌, ◌≤◌, length, get_or, ltb};
 ghost use Rattle.pages.specs.Sizes.{FANOUT, PAGE_WORDS, PAGES, TABLE_WORDS};
 ghost use Rattle.pages.specs.Lists.{sum};
 ghost use Rattle.pages.specs.Sound.{is};
-ghost use Rattle.pages.specs.Readers.{entries_in};
+ghost use Rattle.pages.specs.Left.{left};
 ghost use Rattle.placing.specs.Steps.{held_in, held_below};
 
 use super::words::entry_count;
-use pages::{FANOUT, LEVEL, PAGE_COUNT, PAGE_WORDS};
+use pages::{FANOUT, LEVEL, PAGE_COUNT, PAGE_WORDS, PageEntries};
 
-// Whether one of the first n entries of a page's words has the r `number`.
-fn has_ref(page: &[u32; PAGE_WORDS], n: usize, number: u32) -> bool
-    requires { n ≤ FANOUT }
-    ensures { result ≡ ltb 0 (sum (is number) (entries_in page.now n)) }
+// Whether one of the entries has the r `number`.
+fn has_ref(mut entries: PageEntries<'_>, number: u32) -> bool
+    ensures { result ≡ ltb 0 (sum (is number) (left entries.entry)) }
 {
-    (0..n).any(|i| pages::entry_of(page, i).r == number)
+    entries.any(|e| e.r == number)
 }
 
 // Whether an entry of a leaf has the r `number`. The count is read only after a match at one of the eight places.
@@ -22,7 +21,9 @@ fn has_ref(page: &[u32; PAGE_WORDS], n: usize, number: u32) -> bool
 fn is_held(page: &[u32; PAGE_WORDS], number: u32) -> bool
     ensures { result ≡ ltb 0 (held_in page.now number) }
 {
-    page[LEVEL] == 0 && has_ref(page, FANOUT, number) && has_ref(page, entry_count(page), number)
+    page[LEVEL] == 0
+        && has_ref(pages::entries_of(page, FANOUT), number)
+        && has_ref(pages::entries_of(page, entry_count(page)), number)
 }
 
 // Whether an entry in the leaves has the r `number`.

@@ -1,13 +1,14 @@
 -- The closure compares one r.
-use Rattle.std.proofs.Common.{◌≡◌, refl, arith, rules, tests}
-use Rattle.std.proofs.lemmas.Iterator.{YieldsList-from_range, cases_from_any}
-use Rattle.pages.specs.Readers.{entry_in}
+use Rattle.std.proofs.Common.{rules, refl, ◌∙◌}
+use Rattle.std.proofs.Math.Dec.{eqb}
+use Rattle.std.proofs.lemmas.Iterator.Consumers.{YieldsList-from_first}
+use Rattle.std.proofs.lemmas.Iterator.Search.{any_from_yields_List}
+use Rattle.pages.specs.Left.{left}
 use Rattle.placing.proofs.Searching.{ref-any}
 use Rattle.placing.proofs.search.has_ref.Goals as goal
 
 pub returns : goal.returns
 returns c =
-    let a = c.args in
-    ref-any a.page.now a.number a.n _
-    (cases_from_any _ _ _ (λ i. (entry_in a.page.now i).r ≡ a.number) (λ i. (entry_in a.page.now i).r ≡ a.number → ⊥) c.any.ensures.ran (YieldsList-from_range 0 a.n a.n refl (omega arith))
-    (λ i q k. search (rules, tests)) (λ i q k. search (rules, tests)))
+    let n = c.args.number in
+    any_from_yields_List (λ e. eqb e.r n) c.any.new.self _ c.any.result c.any.ensures.ran (YieldsList-from_first (λ x. x) left (left c.args.entries) refl) (λ x b q k. (search rules, search k.met.0))
+    ∙ ref-any n (left c.args.entries)
