@@ -2,7 +2,7 @@
 use mathlib.Core.Bool.{Bool, true, false, cond}
 use mathlib.Core.List.{List, [], ◌∷◌, ◌++◌, map}
 use mathlib.Core.Logic.{◌≢◌}
-use mathlib.Core.Path.{◌≡◌, refl, sym, ap, ◌∙◌}
+use mathlib.Core.Path.{◌≡◌, refl, sym, ap, ◌∙◌, subst}
 use Rattle.std.specs.List.{All}
 use Rattle.std.proofs.lemmas.List.Elements.{All-nil, All-cons}
 use Prim.Native.Nat.{ℕ, zero, suc, ◌+◌, ◌-◌, ◌*◌, ◌/◌, ◌%◌, ◌^◌, ◌≤◌, ◌<◌}
@@ -108,3 +108,7 @@ lowest k n z l =
       less = omega (arith, e, r.1, pow_pos (count_trailing_zeros k n));
       first = λ b. r.2 b ∙ rw e;
     }
+
+-- the ones of a number of j bits lie below j
+pub places_of : (j k n : ℕ) → n < 2 ^ j → All (λ t. t < j) (ones_from 0 (j + k) n)
+places_of j k n l = subst (All (λ t. t < j)) (sym (ones_short 0 j k n l)) (ones_below 0 j j n (omega arith))

@@ -10,11 +10,11 @@ use lib.Bits.{bit_and, bit_or, and_le_r, or_zero_r}
 use lib.Dec.{eqb}
 use lib.ListN.{get_or}
 use borrow.Author.Tests.{eq-eqb, ne_eqb}
-use Rattle.relations.specs.Sets.{bit, some_below, listed}
+use Rattle.relations.specs.Sets.{bit, ones_from, packed, some_below, listed}
 use Rattle.relations.specs.Axis.{CODES, IsCode, code}
 use Rattle.relations.specs.Query.{admits, row_set, row_sets}
 use Rattle.relations.specs.Nodes.{inside, node_mask, may_hold, Quarter, QuarterRect}
-use Rattle.relations.specs.Steps.{joined_to, joined_of, node_masks, page_test, rows_have}
+use Rattle.relations.specs.Steps.{union_of, joined_to, joined_of, node_masks, page_test, rows_have}
 use Rattle.relations.proofs.Tests.{and_left, and_right, both, none-at}
 use Rattle.relations.proofs.Bits.{bit-none, bit-or, bit-and, bit-packed, packed_lt, packed-of, packed_none, none_below, some_at, some_same, some-swap, found_below, listed_at, listed_same}
 use Rattle.relations.proofs.Sides.{is_code, code-suc, in-quarters, same_code}
@@ -100,9 +100,18 @@ module _ (rows : List ℕ) where
       added (inside c (suc n)) (picked c n) (get_or rows n 0)
       ∙ ap (λ (x : ℕ). bit_or x (cond (inside c (suc n)) (get_or rows n 0) 0)) (picked-joined c n)
 
-  pub all-picked : listed (λ c. picked (suc c) CODES) CODES ≡ joined_of rows
+  all-picked : listed (λ c. picked (suc c) CODES) CODES ≡ joined_of rows
   unfolding joined_of
   all-picked = listed_same _ _ CODES (λ c l. picked-joined (suc c) CODES)
+
+  -- the rows of each set, one after the other, as the source joins them
+  pub all-joined : listed (λ c. union_of rows 0 (ones_from 0 64 (get_or node_masks c 0))) CODES ≡ joined_of rows
+  unfolding listed inside picked union_of ones_from node_masks node_mask packed bit
+  all-joined = all-picked
+
+pub masks_fit : (c : ℕ) → c < CODES → get_or node_masks c 0 < 2 ^ CODES
+unfolding node_masks
+masks_fit c h = rw (listed_at (λ h. node_mask (suc h)) CODES c h) (mask_lt (suc c))
 
 module _ (rows : List ℕ) where
   -- code i can stand inside a page of code cy, and its row has bit k

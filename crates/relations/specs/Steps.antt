@@ -1,5 +1,5 @@
 -- What the inner functions are held to: the side of a number, rows of one relation and of one clause, and the row sets joined for a page's code.
-use Rattle.std.specs.Prelude.{Bool, not, cond, ◌&&◌, ◌||◌, List, ℕ, zero, suc, ◌+◌, ◌-◌, leb, ltb, eqb, get_or}
+use Rattle.std.specs.Prelude.{Bool, not, cond, ◌&&◌, ◌||◌, List, [], ◌∷◌, ℕ, zero, suc, ◌+◌, ◌-◌, leb, ltb, eqb, get_or}
 use Rattle.std.specs.Int.Bits.{bit_and, bit_or}
 use Rattle.relations.specs.Sets.{digit, bit, packed, some_below, listed}
 use Rattle.relations.specs.Axis.{CODES}
@@ -31,6 +31,11 @@ cut_to rows clause = listed (λ h. bit_and (get_or rows h 0) (named_row clause (
 unfoldable pub joined_to : List ℕ → ℕ → ℕ → ℕ
 joined_to rows c zero = 0
 joined_to rows c (suc n) = bit_or (joined_to rows c n) (cond (inside c (suc n)) (get_or rows n 0) 0)
+
+-- what was joined, and the rows at these places
+unfoldable pub union_of : List ℕ → ℕ → List ℕ → ℕ
+union_of rows joined [] = joined
+union_of rows joined (h ∷ hs) = union_of rows (bit_or joined (get_or rows h 0)) hs
 
 -- what may stand below a page of code c on y, at place c - 1
 unfoldable pub joined_of : List ℕ → List ℕ

@@ -1,18 +1,19 @@
 // Axis codes, relations, admitted sets, and the thirteen sets of what can stand inside a page.
 #![tactic(auto)]
 
-ghost use Rattle.std.specs.Prelude.{◌≡◌, ℕ, suc, ◌<◌};
+ghost use Rattle.std.specs.Prelude.{◌≡◌, ℕ, suc, ◌<◌, ◌^◌};
 ghost use Rattle.refusals.specs.Numbers.{refusal_of};
-ghost use Rattle.relations.specs.Sets.{listed};
+ghost use Rattle.relations.specs.Sets.{listed, ones_from};
 ghost use Rattle.relations.specs.Axis.{CODES, code, IsCode};
 ghost use Rattle.relations.specs.Relation.{sets_of};
 ghost use Rattle.relations.specs.Query.{count_of, some_bad, refusal_of as clauses_refusal, admitted_of, admitted_set_of};
-ghost use Rattle.relations.specs.Steps.{side_of, named_row, with_relation, cut_to, joined_of, node_masks, page_test, open_at, near_by, inner_by, overlap_by, rows_have};
+ghost use Rattle.relations.specs.Steps.{side_of, named_row, with_relation, cut_to, union_of, joined_of, node_masks, page_test, open_at, near_by, inner_by, overlap_by, rows_have};
 
 mod set_bits;
 
 use refusals::{ACCEPTED, Refusal};
 pub use set_bits::SetBits;
+use std::cmp::Ordering;
 
 // The codes are 1 to 13.
 pub const CODES: usize = 13;
@@ -76,11 +77,15 @@ const NODE_MASKS: [u16; CODES] = [
     1, 3, 295, 879, 8191, 288, 864, 8160, 256, 768, 7936, 6144, 4096,
 ];
 
-// 0 where a is above b, 1 where it is at b, 2 where it is below b: a sum, so that no branch is left.
+// 0 where a is above b, 1 where it is at b, 2 where it is below b.
 fn side(a: u32, b: u32) -> usize
     ensures { (result ≡ side_of a b) × (result < 3) }
 {
-    (a <= b) as usize + (a < b) as usize
+    match a.cmp(&b) {
+        Ordering::Greater => 0,
+        Ordering::Equal => 1,
+        Ordering::Less => 2,
+    }
 }
 
 /// The code of [p1, p2] against the reference [q1, q2].
@@ -245,27 +250,27 @@ pub struct PageTest {
     pub ghost tabled: { masks ≡ node_masks },
 }
 
-// The row sets joined for each code of a page. Written out by the thirteen sets, since a loop over their masks took longer than
-// the rest of a query's preparation.
+// The row sets of some codes, joined.
+fn joined_row(rows: &[u16; CODES], codes: u16) -> u16
+    requires { codes < 2 ^ CODES }
+    ensures { result ≡ union_of rows.now 0 (ones_from 0 64 codes) }
+{
+    let mut joined = 0;
+    for h in SetBits::new(u64::from(codes)) {
+        joined |= rows[h as usize];
+    }
+    joined
+}
+
+// The row sets joined for each code of a page.
 fn joined(rows: &[u16; CODES]) -> [u16; CODES]
     ensures { result ≡ joined_of rows.now }
 {
-    let [r1, r2, r3, r4, r5, r6, r7, r8, r9, r10, r11, r12, r13] = *rows;
-    [
-        r1,
-        r1 | r2,
-        r1 | r2 | r3 | r6 | r9,
-        r1 | r2 | r3 | r4 | r6 | r7 | r9 | r10,
-        r1 | r2 | r3 | r4 | r5 | r6 | r7 | r8 | r9 | r10 | r11 | r12 | r13,
-        r6 | r9,
-        r6 | r7 | r9 | r10,
-        r6 | r7 | r8 | r9 | r10 | r11 | r12 | r13,
-        r9,
-        r9 | r10,
-        r9 | r10 | r11 | r12 | r13,
-        r12 | r13,
-        r13,
-    ]
+    let mut below = [0; CODES];
+    for (c, row) in below.iter_mut().enumerate() {
+        *row = joined_row(rows, NODE_MASKS[c]);
+    }
+    below
 }
 
 impl PageTest {
