@@ -5,8 +5,8 @@ pub mod Fill
 pub mod Keeps
 pub mod Placed
 pub mod Choosing
-pub mod Inserting
 pub mod Ordering
+pub mod Sorting
 pub mod Stepping
 pub mod Searching
 pub mod PageWords
