@@ -2,20 +2,15 @@
 // never make (three levels, pages in another order, other fills), and the empty one.
 #![tactic(auto)]
 
-ghost use Rattle.std.specs.Prelude.{◌≡◌, length};
-ghost use Rattle.pages.specs.Sizes.{PAGE_WORDS};
-
 mod queries;
 mod tables;
 
-use pages::Rect;
+use pages::{ENTRY_WORDS, PAGE_WORDS, Rect};
 use queries::{NINE_QUERIES, Query, REFUSED_QUERIES, SOME_QUERIES, THREE_LEVELS_QUERIES};
 use query::{Answer, Opened};
 use std::fmt::Display;
 use std::io;
 use tables::{NINE_PIECES, Page, THREE_LEVELS, Table};
-
-const ANSWER_WORDS: usize = pages::PIECES as usize;
 
 // One word less than a table.
 const SHORT: usize = pages::TABLE_WORDS - 1;
@@ -28,21 +23,19 @@ fn words_of(table: &Table) -> [u32; pages::TABLE_WORDS] {
     words[pages::PAGE_COUNT] = table.pages.len().min(pages::PAGES) as u32;
     words[pages::ROOT] = table.root;
     words[pages::PIECE_COUNT] = table.pieces;
-    let pages = words[pages::TABLE_HEAD..].chunks_exact_mut(pages::PAGE_WORDS);
-    for (words, page) in pages.zip(table.pages) {
+    let (pages, _) = words[pages::TABLE_HEAD..].as_chunks_mut::<PAGE_WORDS>();
+    for (words, page) in pages.iter_mut().zip(table.pages) {
         write_page(words, page);
     }
     words
 }
 
-fn write_page(words: &mut [u32], page: &Page)
-    requires { length words.old ≡ PAGE_WORDS }
-{
+fn write_page(words: &mut [u32; PAGE_WORDS], page: &Page) {
     words[pages::LEVEL] = page.level;
     words[pages::COUNT] = page.entries.len().min(pages::FANOUT) as u32;
-    let entries = words[pages::PAGE_HEAD..].chunks_exact_mut(pages::ENTRY_WORDS);
-    for (words, entry) in entries.zip(page.entries) {
-        words.copy_from_slice(entry);
+    let (entries, _) = words[pages::PAGE_HEAD..].as_chunks_mut::<ENTRY_WORDS>();
+    for (words, entry) in entries.iter_mut().zip(page.entries) {
+        *words = *entry;
     }
 }
 
@@ -153,7 +146,7 @@ fn print_front(rt: &impl Print, answer: &[u16], count: usize) -> io::Result<()> 
 }
 
 fn main(rt: HostRuntime) -> io::Result<()> {
-    let mut answer = [0; ANSWER_WORDS];
+    let mut answer = [0; pages::NUMBERS];
     let zeros = [0; pages::TABLE_WORDS];
     let mut empty = zeros;
     empty[pages::PAGE_COUNT] = 1;
