@@ -6,6 +6,6 @@ use Rattle.job.specs.Output.{bad_job}
 use Rattle.job.specs.Words.{output}
 
 -- The output of the input; or, only after a failed read, what a bad job prints. `run` is proved for whatever `failed` is, so that only a
--- read that did fail can give it. Of std's readers nothing is known then: theirs is ⊤.
+-- `read_some` that gave an error can give it. It does not say when that gives one: std lets any read fail, and `failed` of its readers is ⊤.
 abbrev pub Printed : Option (List ℕ) → Type 0 → Option (List ℕ) → Option (List ℕ) → Type 0
 Printed input failed old new = IfSome input (λ b. Appends old new (output b) ⊎ (failed × Appends old new bad_job))
