@@ -17,7 +17,7 @@ use borrow.Author.Tests.{ne_eqb, lt-ltb, le-ltb}
 use Rattle.relations.specs.declared.AdmittedSet.{AdmittedSet}
 use Rattle.relations.specs.Sets.{total, listed}
 use Rattle.relations.specs.Axis.{CODES}
-use Rattle.relations.specs.Query.{CLAUSES, CLAUSE_COUNT, admits, row_set, row_sets, admitted_count, bad_clause, some_bad, refusal_of, answer, admitted_of, count_of, admitted_set_of}
+use Rattle.relations.specs.Query.{CLAUSES, CLAUSE_COUNT, CLAUSE_NOT_VALID, admits, row_set, row_sets, admitted_count, bad_clause, some_bad, refusal_of, answer, admitted_of, count_of, admitted_set_of}
 use Rattle.relations.proofs.Bits.{ones-packed, total-front, total-same}
 
 -- ---- refusals
@@ -26,6 +26,10 @@ module _ (cs : List ℕ) where
   pub refuse-many : (length cs ≡ 0 → ⊥) → CLAUSES < length cs → CLAUSE_COUNT ≡ refusal_of cs
   unfolding refusal_of
   refuse-many n h = simp (ne_eqb (length cs) 0 n, lt-ltb CLAUSES (length cs) h)
+
+  pub refuse-bad : (length cs ≡ 0 → ⊥) → length cs ≤ CLAUSES → some_bad cs ≡ true → CLAUSE_NOT_VALID ≡ refusal_of cs
+  unfolding refusal_of
+  refuse-bad n h e = simp (ne_eqb (length cs) 0 n, le-ltb CLAUSES (length cs) h, e)
 
   pub accept : (length cs ≡ 0 → ⊥) → length cs ≤ CLAUSES → some_bad cs ≡ false → 0 ≡ refusal_of cs
   unfolding refusal_of
