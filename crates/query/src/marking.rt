@@ -1,5 +1,5 @@
 // The pieces that a walk has met, as a set of their numbers.
-ghost use Rattle.std.specs.Prelude.{◌≡◌, ◌+◌, ◌*◌, ◌≤◌, ◌<◌, ℕ, List, cond, length};
+ghost use Rattle.std.specs.Prelude.{◌≡◌, ◌+◌, ◌*◌, ◌≤◌, ◌<◌, ℕ, List, length};
 ghost use Rattle.std.proofs.lemmas.List.Edits.{sets};
 ghost use Rattle.pages.specs.Sizes.{PIECES};
 ghost use Rattle.query.specs.Marks.{MARK_WORDS, Summed, no_marks, with_mark, numbers_in, marked_numbers};
@@ -36,15 +36,13 @@ impl Marks {
         }
     }
 
-    /// Marks r where it is a hit, without a branch, which the processor could not foretell.
-    pub fn mark(&mut self, r: u32, hit: bool)
+    pub fn mark(&mut self, r: u32)
         requires { r < PIECES }
-        ensures { self.new ≡ cond hit (with_mark self.old r) self.old }
+        ensures { self.new ≡ with_mark self.old r }
     {
         let at = (r / MARK_BITS) as usize;
-        let bit = hit as u64;
-        self.words[at] |= bit << (r % MARK_BITS);
-        self.named |= bit << at;
+        self.words[at] |= 1 << (r % MARK_BITS);
+        self.named |= 1 << at;
     }
 
     // Writes the numbers that word w marks, from place `at` on, and gives the place behind them.

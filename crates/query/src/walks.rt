@@ -33,7 +33,9 @@ impl Search<'_> {
         ensures { marks.new ≡ marked marks.old (hits_on (admits_in self.now) (table_of self.now) p) }
     {
         for e in self.table.entries(p) {
-            marks.mark(e.r, !self.window.is_beyond(e.rect));
+            if !self.window.is_beyond(e.rect) {
+                marks.mark(e.r);
+            }
         }
     }
 
@@ -47,8 +49,11 @@ impl Search<'_> {
             return;
         }
         for e in self.table.entries(p) {
-            if !self.window.is_beyond(e.rect) {
-                marks.mark(e.r, self.admits(e.rect));
+            if self.window.is_beyond(e.rect) {
+                continue;
+            }
+            if self.admits(e.rect) {
+                marks.mark(e.r);
             }
         }
     }

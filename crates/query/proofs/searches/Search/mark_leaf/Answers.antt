@@ -1,7 +1,7 @@
 -- Each entry marks its number exactly when its rectangle is admitted.
 use Prim.Native.Nat.{◌<◌}
 use mathlib.Core.Path.{refl, sym, ap, subst, ◌∙◌}
-use mathlib.Core.Bool.{false}
+use mathlib.Core.Bool.{true, false}
 use Rattle.pages.specs.Sizes.{PIECES}
 use Rattle.pages.specs.Lists.{concat_map, Every}
 use Rattle.pages.specs.Left.{left}
@@ -26,12 +26,14 @@ is_beyond-requires c = (subst (Every (λ x. Small x.rect × (x.r < PIECES))) c.i
 pub mark-requires : goal.mark-requires
 mark-requires c = (subst (Every (λ x. Small x.rect × (x.r < PIECES))) c.in-Some.ensures.steps c.loop-e.invariant.each).0.1
 
-pub loop-e-preserved-then-not-is_beyond : goal.loop-e-preserved-then-not-is_beyond
-loop-e-preserved-then-not-is_beyond c =
+pub loop-e-preserved-then-admits : goal.loop-e-preserved-then-admits
+loop-e-preserved-then-admits c =
+    let s = c.args.self.now in
     let l = c.loop-e in
-    let steps = c.in-Some.ensures.steps in record {
-      marks = marking-step (admits_in c.args.self.now) _ _ c.in-Some.e l.marks _ _ steps c.admits.ensures c.mark.ensures ∙ l.invariant.marks;
-      each = (subst (Every (λ x. Small x.rect × (x.r < PIECES))) steps l.invariant.each).1;
+    let steps = c.in-Some.ensures.steps in
+    let each = subst (Every (λ x. Small x.rect × (x.r < PIECES))) steps l.invariant.each in record {
+      marks = marking-step (admits_in s) _ _ c.in-Some.e l.marks _ true steps (sym c.if-admits.true ∙ c.admits.ensures) c.mark.ensures ∙ l.invariant.marks;
+      each = each.1;
     }
 
 pub loop-e-preserved : goal.loop-e-preserved
@@ -40,7 +42,17 @@ loop-e-preserved c =
     let l = c.loop-e in
     let steps = c.in-Some.ensures.steps in
     let each = subst (Every (λ x. Small x.rect × (x.r < PIECES))) steps l.invariant.each in record {
-      marks = marking-step (admits_in s) _ _ c.in-Some.e l.marks l.marks false steps (beyond-fails _ _ _ s.leaves _ each.0.0 _ c.is_beyond.ensures c.if-not-is_beyond.false) refl ∙ l.invariant.marks;
+      marks = marking-step (admits_in s) _ _ c.in-Some.e l.marks l.marks false steps (sym c.if-admits.false ∙ c.admits.ensures) refl ∙ l.invariant.marks;
+      each = each.1;
+    }
+
+pub loop-e-preserved-then-is_beyond : goal.loop-e-preserved-then-is_beyond
+loop-e-preserved-then-is_beyond c =
+    let s = c.args.self.now in
+    let l = c.loop-e in
+    let steps = c.in-Some.ensures.steps in
+    let each = subst (Every (λ x. Small x.rect × (x.r < PIECES))) steps l.invariant.each in record {
+      marks = marking-step (admits_in s) _ _ c.in-Some.e l.marks l.marks false steps (beyond-fails _ _ _ s.leaves _ each.0.0 _ c.is_beyond.ensures c.if-is_beyond.true) refl ∙ l.invariant.marks;
       each = each.1;
     }
 

@@ -1,6 +1,7 @@
 -- Each entry marks its number exactly when it does not lie beyond the window, and that is when its rectangle is admitted.
 use Prim.Native.Nat.{◌<◌}
 use mathlib.Core.Path.{refl, sym, ap, subst, ◌∙◌}
+use mathlib.Core.Bool.{true, false}
 use Rattle.pages.specs.Sizes.{PIECES}
 use Rattle.pages.specs.Lists.{concat_map, Every}
 use Rattle.pages.specs.Left.{left}
@@ -8,7 +9,7 @@ use Rattle.query.specs.Steps.{Small, admitted_r}
 use Rattle.query.specs.Marks.{marked}
 use Rattle.query.specs.Search.{admits_in, table_of}
 use Rattle.query.proofs.Edges.{piece-entries}
-use Rattle.query.proofs.WindowLemmas.{whole-decides}
+use Rattle.query.proofs.WindowLemmas.{whole-decides, beyond-fails}
 use Rattle.query.proofs.Walking.{marking-step, hits-leaf}
 use Rattle.query.proofs.searches.Search.mark_near.Goals as goal
 
@@ -25,13 +26,23 @@ is_beyond-requires c = (subst (Every (λ x. Small x.rect × (x.r < PIECES))) c.i
 pub mark-requires : goal.mark-requires
 mark-requires c = (subst (Every (λ x. Small x.rect × (x.r < PIECES))) c.in-Some.ensures.steps c.loop-e.invariant.each).0.1
 
+pub loop-e-preserved-then-not-is_beyond : goal.loop-e-preserved-then-not-is_beyond
+loop-e-preserved-then-not-is_beyond c =
+    let s = c.args.self.now in
+    let l = c.loop-e in
+    let steps = c.in-Some.ensures.steps in
+    let each = subst (Every (λ x. Small x.rect × (x.r < PIECES))) steps l.invariant.each in record {
+      marks = marking-step (admits_in s) _ _ c.in-Some.e l.marks _ true steps (whole-decides _ _ _ s.leaves _ each.0.0 false (sym c.if-not-is_beyond.true ∙ c.is_beyond.ensures) c.requires.whole) c.mark.ensures ∙ l.invariant.marks;
+      each = each.1;
+    }
+
 pub loop-e-preserved : goal.loop-e-preserved
 loop-e-preserved c =
     let s = c.args.self.now in
     let l = c.loop-e in
     let steps = c.in-Some.ensures.steps in
     let each = subst (Every (λ x. Small x.rect × (x.r < PIECES))) steps l.invariant.each in record {
-      marks = marking-step (admits_in s) _ _ c.in-Some.e l.marks _ _ steps (whole-decides _ _ _ s.leaves _ each.0.0 _ c.is_beyond.ensures c.requires.whole) c.mark.ensures ∙ l.invariant.marks;
+      marks = marking-step (admits_in s) _ _ c.in-Some.e l.marks l.marks false steps (beyond-fails _ _ _ s.leaves _ each.0.0 _ c.is_beyond.ensures c.if-not-is_beyond.false) refl ∙ l.invariant.marks;
       each = each.1;
     }
 
