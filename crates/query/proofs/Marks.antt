@@ -7,9 +7,8 @@ use mathlib.Core.Path.{◌≡◌, refl, sym, ap, ◌∙◌}
 use mathlib.Core.Bool.{Bool, true, false, ◌||◌, cond, or-true, or-false, or_assoc}
 use mathlib.Core.List.{List, map, [], ◌∷◌, ◌++◌, append-nil, append_assoc}
 use lib.ListN.{length, get_or, set, length-set, length-replicate, length-append}
-use lib.Seq.{get_or-set_same, get_or-set_other, set-get_or, sets, length-sets}
-use lib.Bits.{bit_or, or_lt, or_zero_r}
-use mir.Val.{bool_byte}
+use lib.Seq.{get_or-set_same, get_or-set_other, sets, length-sets}
+use lib.Bits.{bit_or, or_lt}
 use lib.Pow.{pow-lt}
 use lib.Dec.{ltb, eqb, eqb-zero-suc, eqb-suc-zero, eqb-suc-suc}
 use borrow.Author.Tests.{lt-ltb, eq-eqb, ne_eqb}
@@ -34,37 +33,31 @@ bit-pow (suc j) (suc i) =
     let h : 2 ^ suc j / 2 ≡ 2 ^ j = omega (arith, pow-suc 2 j) in
     bit-half (2 ^ suc j) i ∙ (ap (λ x. bit x i) h ∙ (bit-pow j i ∙ sym (eqb-suc-suc i j)))
 
--- the bit of a hit alone, as the source makes it
-abbrev hit_bit : Bool → ℕ → ℕ
-hit_bit hit j = bool_byte hit * 2 ^ j % 2 ^ 64
+-- one bit, as the source makes it
+abbrev one_bit : ℕ → ℕ
+one_bit j = 1 * 2 ^ j % 2 ^ 64
 
-or-hit : (hit : Bool) (n j : ℕ) → j < 64 → bit_or n (hit_bit hit j) ≡ cond hit (bit_or n (2 ^ j)) n
-or-hit true n j l = ap (bit_or n) (one_shifted 64 j l)
-or-hit false n j l = ap (bit_or n) (omega arith) ∙ or_zero_r n
+or-one : (n j : ℕ) → j < 64 → bit_or n (one_bit j) ≡ bit_or n (2 ^ j)
+or-one n j l = ap (bit_or n) (one_shifted 64 j l)
 
-abbrev hit_words : Bool → List ℕ → ℕ → List ℕ
-hit_words hit m r = set m (r / MARK_BITS) (bit_or (get_or m (r / MARK_BITS) 0) (hit_bit hit (r % MARK_BITS)))
+abbrev words_with : List ℕ → ℕ → List ℕ
+words_with m r = set m (r / MARK_BITS) (bit_or (get_or m (r / MARK_BITS) 0) (one_bit (r % MARK_BITS)))
 
-pub hit-mark : (hit : Bool) (m : List ℕ) (r : ℕ) → hit_words hit m r ≡ cond hit (with_mark m r) m
+pub mark-made : (m : List ℕ) (r : ℕ) → words_with m r ≡ with_mark m r
 unfolding with_mark
-hit-mark true m r = ap (set m (r / 64)) (or-hit true (get_or m (r / 64) 0) (r % 64) (omega arith))
-hit-mark false m r = ap (set m (r / 64)) (or-hit false (get_or m (r / 64) 0) (r % 64) (omega arith)) ∙ set-get_or m (r / 64) 0
+mark-made m r = ap (set m (r / 64)) (or-one (get_or m (r / 64) 0) (r % 64) (omega arith))
 
 -- a mark names its word
-pub hit-summed : (hit : Bool) (m : List ℕ) (n r : ℕ) → r < PIECES → Summed m n → Summed (hit_words hit m r) (bit_or n (hit_bit hit (r / MARK_BITS)))
+pub mark-summed : (m : List ℕ) (n r : ℕ) → r < PIECES → Summed m n → Summed (words_with m r) (bit_or n (one_bit (r / MARK_BITS)))
 unfolding with_mark
-hit-summed hit m n r l s = rw (hit-mark hit m r, or-hit hit n (r / 64) (omega arith)) (go hit)
+mark-summed m n r l s =
+    let h : r / 64 < 16 = omega arith in
+    rw (mark-made m r, or-one n (r / 64) (omega arith)) (record { small = or_lt 16 n (2 ^ (r / 64)) s.small (pow-lt h); unnamed = λ w z. other w z (ℕ_discrete w (r / 64)) })
   where
     other : (w : ℕ) → bit (bit_or n (2 ^ (r / 64))) w ≡ false → Dec (w ≡ r / 64) → get_or (with_mark m r) w 0 ≡ 0
     other w z (yes e) = absurd (not-both (bit (bit_or n (2 ^ (r / 64))) w) (rw (bit-or, bit-pow, eq-eqb w (r / 64) e, or-true)) z)
     other w z (no e) =
         get_or-set_other m (r / 64) w _ 0 e ∙ s.unnamed w (sym (or-false (bit n w)) ∙ (rw (bit-or, bit-pow, ne_eqb w (r / 64) e) at z))
-
-    go : (b : Bool) → Summed (cond b (with_mark m r) m) (cond b (bit_or n (2 ^ (r / 64))) n)
-    go true =
-        let h : r / 64 < 16 = omega arith in
-        record { small = or_lt 16 n (2 ^ (r / 64)) s.small (pow-lt h); unnamed = λ w z. other w z (ℕ_discrete w (r / 64)) }
-    go false = s
 
 mark-at : (m : List ℕ) (r c : ℕ) → length m ≡ MARK_WORDS → c < PIECES → is_marked (with_mark m r) c ≡ (is_marked m c || eqb r c)
 unfolding is_marked with_mark
