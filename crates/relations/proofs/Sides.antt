@@ -6,9 +6,7 @@ use mathlib.Core.Path.{◌≡◌, refl, sym, ap, ap₂, subst, subst⁻¹, ◌�
 use Prim.Native.Nat.{ℕ, suc, ◌+◌, ◌*◌, ◌-◌, ◌≤◌, ◌<◌}
 use native.Mathlib.Decide.{dec_lt}
 use native.Mathlib.Omega.{arith}
-use Rattle.std.specs.Ordering.{MatchOrdering, nat_cmp}
-use Rattle.std.specs.Cmp.{ranks}
-use Rattle.std.proofs.Common.{Ordering, Less, Equal, Greater}
+use mir.Val.{bool_byte}
 use lib.Dec.{eqb, leb, ltb}
 use borrow.Author.Tests.{lt-ltb, le-ltb, eq-eqb, ne_eqb, le-leb, lt-leb, eqb-true, leb-true}
 use Rattle.relations.specs.Sets.{digit}
@@ -55,13 +53,13 @@ side-lt a b = go (sided a b)
     go (above h) = omega arith
 
 -- as the source makes a side
-pub side_ranked : (a b : ℕ) (r : Ordering) → r ≡ nat_cmp a b → MatchOrdering r (2 ≡ side_of a b) (1 ≡ side_of a b) (0 ≡ side_of a b)
-side_ranked a b r e = go r (subst (λ o. MatchOrdering o (a < b) (a ≡ b) (b < a)) (sym e) (ranks a b))
-  where
-    go : (o : Ordering) → MatchOrdering o (a < b) (a ≡ b) (b < a) → MatchOrdering o (2 ≡ side_of a b) (1 ≡ side_of a b) (0 ≡ side_of a b)
-    go Less h = sym (side-below a b h)
-    go Equal h = sym (side-at a b h)
-    go Greater h = sym (side-above a b h)
+byte-digit : (b : Bool) → bool_byte b ≡ digit b
+byte-digit true = refl
+byte-digit false = refl
+
+pub side-bytes : (a b : ℕ) → bool_byte (leb a b) + bool_byte (ltb a b) ≡ side_of a b
+unfolding side_of
+side-bytes a b = ap₂ ◌+◌ (byte-digit (leb a b)) (byte-digit (ltb a b))
 
 -- what the table asks of a side
 abbrev is_below : ℕ → Bool

@@ -1,13 +1,10 @@
--- The answer of the comparison tells the side.
-use Rattle.std.proofs.Common.{arith, Less, Equal, Greater}
-use Rattle.relations.proofs.Sides.{side_ranked}
+-- The sum of two comparisons is the side.
+use native.Mathlib.Omega.{arith}
+use Rattle.relations.proofs.Sides.{side-bytes, side-lt}
 use Rattle.relations.proofs.side.Goals as goal
 
-pub returns-in-Greater : goal.returns-in-Greater
-returns-in-Greater c = (side_ranked _ _ Greater c.in-Greater.ensures, omega arith)
+pub overflow_add-result : goal.overflow_add-result
+overflow_add-result c = record { fits = omega (arith, side-bytes c.args.a c.args.b, side-lt c.args.a c.args.b) }
 
-pub returns-in-Equal : goal.returns-in-Equal
-returns-in-Equal c = (side_ranked _ _ Equal c.in-Equal.ensures, omega arith)
-
-pub returns-in-Less : goal.returns-in-Less
-returns-in-Less c = (side_ranked _ _ Less c.in-Less.ensures, omega arith)
+pub returns : goal.returns
+returns c = (side-bytes c.args.a c.args.b, omega (arith, side-bytes c.args.a c.args.b, side-lt c.args.a c.args.b))
