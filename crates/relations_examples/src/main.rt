@@ -1,8 +1,11 @@
 // Runs the relation layer on the examples of document 01 and on others, and prints what it answers.
 #![tactic(auto)]
 
+ghost use Rattle.std.specs.Prelude.{◌<◌};
+ghost use Rattle.relations.specs.Axis.{CODES};
+
 use relations::{AdmittedSet, CODES, Code, PageTest, RowSets};
-use std::io;
+use std::{array, io};
 
 const RELATIONS: u32 = 40;
 
@@ -57,21 +60,22 @@ fn query(rt: &impl Print, name: &str, clauses: &[u64]) -> io::Result<()> {
     rows_of(rt, set.rows)
 }
 
+fn every_code() -> [Code; CODES] {
+    array::from_fn(
+        |i|
+            requires { i < CODES }
+        { Code { number: i + 1 } },
+    )
+}
+
 // How many of the 169 pairs of codes pass.
 fn passing<F: Fn(Code, Code) -> bool>(test: F) -> usize
     requires { F.IsAlwaysCallable test }
 {
+    let codes = every_code();
     let mut count = 0;
-    for place in 0..CODES * CODES {
-        let first = Code {
-            number: place / CODES + 1,
-        };
-        let second = Code {
-            number: place % CODES + 1,
-        };
-        if test(first, second) {
-            count += 1;
-        }
+    for first in codes {
+        count += codes.iter().filter(|second| test(first, **second)).count();
     }
     count
 }
