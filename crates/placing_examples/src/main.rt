@@ -2,7 +2,7 @@
 #![tactic(auto)]
 
 use pages::{PAGE_WORDS, PIECE_COUNT, Rect, TABLE_HEAD, TABLE_WORDS};
-use printing::{ask, checksum, edges, number, print_head, range, store, word};
+use printing::{ask, checksum, edges, number, numbers, print_head, range, store, word};
 use refusals::refusal_of;
 use std::io;
 
@@ -45,9 +45,10 @@ fn place_nine(rt: &impl Print, table: &mut [u32]) -> io::Result<()> {
 fn print_nine(rt: &impl Print, table: &[u32]) -> io::Result<()> {
     print!(rt; "head")?;
     range(rt, table, 0, TABLE_HEAD)?;
-    for p in 0..3 {
+    let (pages, _) = table.get(TABLE_HEAD..).unwrap_or(&[]).as_chunks::<PAGE_WORDS>();
+    for (p, page) in pages.iter().take(3).enumerate() {
         print!(rt; "\npage {p} |")?;
-        range(rt, table, TABLE_HEAD + p * PAGE_WORDS, PAGE_WORDS)?;
+        numbers(rt, page)?;
     }
     print!(rt; "\nequal")?;
     let mut answer = [0; pages::NUMBERS];

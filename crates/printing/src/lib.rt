@@ -16,7 +16,7 @@ pub fn number<N: Display + Drop>(rt: &impl Print, n: N) -> io::Result<()> {
     print!(rt; " {n}")
 }
 
-fn numbers<N: Display>(rt: &impl Print, list: &[N]) -> io::Result<()> {
+pub fn numbers<N: Display>(rt: &impl Print, list: &[N]) -> io::Result<()> {
     for n in list {
         number(rt, n)?;
     }

@@ -6,9 +6,9 @@ mod queries;
 mod tables;
 
 use pages::{ENTRY_WORDS, PAGE_WORDS, Rect};
+use printing::numbers;
 use queries::{NINE_QUERIES, Query, REFUSED_QUERIES, SOME_QUERIES, THREE_LEVELS_QUERIES};
 use query::{Answer, Opened};
-use std::fmt::Display;
 use std::io;
 use tables::{NINE_PIECES, Page, THREE_LEVELS, Table};
 
@@ -37,13 +37,6 @@ fn write_page(words: &mut [u32; PAGE_WORDS], page: &Page) {
     for (words, entry) in entries.iter_mut().zip(page.entries) {
         *words = *entry;
     }
-}
-
-fn print_list<N: Display>(rt: &impl Print, list: &[N]) -> io::Result<()> {
-    for n in list {
-        print!(rt; " {n}")?;
-    }
-    Ok(())
 }
 
 // The sum of all words of the answer slice.
@@ -75,7 +68,7 @@ fn ask_query(
     answer.fill(BLANK);
     let a = Answer::from(query::query(table, reference, clauses, answer));
     print!(rt; " | {} {} {} |", a.refusal, a.hits, a.opened)?;
-    print_list(rt, query::front(answer, a.hits as usize))?;
+    numbers(rt, query::front(answer, a.hits as usize))?;
     print_sum(rt, answer)
 }
 
@@ -103,9 +96,9 @@ fn ask(
 ) -> io::Result<()> {
     for query in queries {
         print!(rt; "{name}")?;
-        print_list(rt, &query.edges)?;
+        numbers(rt, &query.edges)?;
         print!(rt; " {}", query.clauses.len())?;
-        print_list(rt, query.clauses)?;
+        numbers(rt, query.clauses)?;
         let reference = Rect::from(query.edges);
         ask_query(rt, table, reference, query.clauses, answer)?;
         ask_opened(rt, table, reference, query.clauses, answer)?;
@@ -141,7 +134,7 @@ fn ask_rooms(rt: &impl Print, nine: &[u32], empty: &[u32], answer: &mut [u16]) -
 // The length of the slice, the count, and the part that the front call hands back.
 fn print_front(rt: &impl Print, answer: &[u16], count: usize) -> io::Result<()> {
     print!(rt; "front {} {count} |", answer.len())?;
-    print_list(rt, query::front(answer, count))?;
+    numbers(rt, query::front(answer, count))?;
     println!(rt)
 }
 
