@@ -26,9 +26,6 @@ const WORD_BYTES: usize = 4;
 // A job is made of whole words, and so is the largest.
 const _: () = prove!(JOB_BYTES % WORD_BYTES == 0);
 
-// How many values a word has.
-const WORD_VALUES: u64 = 4_294_967_296;
-
 // The words of a query before its clauses, and the place of the clause count among them.
 const QUERY_HEAD: usize = 5;
 

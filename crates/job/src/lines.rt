@@ -1,6 +1,6 @@
 // The lines of the output, gathered in memory.
 ghost use Rattle.std.specs.Prelude.{◌≡◌, ◌+◌, ◌≤◌, ◌<◌, [], ◌∷◌, ◌++◌, length};
-ghost use Rattle.refusals.specs.Numbers.{refusal_of};
+ghost use Rattle.refusals.specs.Numbers.{number_of, refusal_of};
 ghost use Rattle.pages.specs.Sizes.{PIECES};
 ghost use Rattle.query.specs.Calls.{answer_of};
 ghost use Rattle.job.specs.Sizes.{LINE_BYTES};
@@ -102,14 +102,14 @@ impl<const N: usize> Lines<N> {
     }
 
     // The line of a refused piece or query.
-    fn refused(&mut self, letter: u8, position: u32, refusal: u32)
+    fn refused(&mut self, letter: u8, position: u32, refusal: Refusal)
         requires { length self.old + LINE_BYTES ≤ N }
         ensures most { length self.new ≤ length self.old + LINE_BYTES }
-        ensures bytes { self.new ≡ self.old ++ line letter (position ∷ refusal ∷ []) }
+        ensures bytes { self.new ≡ self.old ++ line letter (position ∷ number_of refusal ∷ []) }
     {
         self.byte(letter);
         self.field(position);
-        self.field(refusal);
+        self.field(refusal.number());
         self.byte(NEWLINE);
     }
 
@@ -145,7 +145,7 @@ impl<const N: usize> Lines<N> {
         ensures bytes { self.new ≡ self.old ++ piece_line position (refusal_of placed) }
     {
         if let Err(refusal) = placed {
-            self.refused(UNPLACED, position, refusal.number());
+            self.refused(UNPLACED, position, refusal);
         }
     }
 
@@ -158,7 +158,7 @@ impl<const N: usize> Lines<N> {
     {
         match found {
             Ok(found) => self.answered(position, found, &answer[..found.hits as usize]),
-            Err(refusal) => self.refused(REFUSED, position, refusal.number()),
+            Err(refusal) => self.refused(REFUSED, position, refusal),
         }
     }
 }

@@ -3,7 +3,7 @@ ghost use Rattle.std.specs.Prelude.{◌≡◌, ◌+◌, ◌*◌, ◌≤◌, ◌<
 ghost use Rattle.job.specs.Sizes.{WORD_BYTES, CLAUSE_WORDS};
 ghost use Rattle.job.specs.Words.{word_at, rect_at, clause_at, clauses_at};
 
-use crate::{CLAUSE_WORDS, CLAUSES_READ, WORD_BYTES, WORD_VALUES};
+use crate::{CLAUSE_WORDS, CLAUSES_READ, WORD_BYTES};
 use arrayvec::ArrayVec;
 use pages::Rect;
 
@@ -38,13 +38,13 @@ pub(crate) fn rect_at(bytes: &[u8], i: usize) -> Rect
     ])
 }
 
+#[tactic(auto, using(crate::proofs::Reading::clause_of))]
 fn clause_at(bytes: &[u8], i: usize) -> u64
     requires { WORD_BYTES * (i + CLAUSE_WORDS) ≤ length bytes.now }
     ensures { result ≡ clause_at bytes.now i }
 {
-    let low = word_at(bytes, i);
-    let high = word_at(bytes, i + 1);
-    u64::from(low) + WORD_VALUES * u64::from(high)
+    let at = WORD_BYTES * i;
+    u64::from_le_bytes(*bytes[at..].first_chunk().unwrap())
 }
 
 // The clauses from word `at` on, of which there are `count`, but one more than a query may have at the most.
