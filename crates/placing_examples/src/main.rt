@@ -45,7 +45,10 @@ fn place_nine(rt: &impl Print, table: &mut [u32]) -> io::Result<()> {
 fn print_nine(rt: &impl Print, table: &[u32]) -> io::Result<()> {
     print!(rt; "head")?;
     range(rt, table, 0, TABLE_HEAD)?;
-    let (pages, _) = table.get(TABLE_HEAD..).unwrap_or(&[]).as_chunks::<PAGE_WORDS>();
+    let (pages, _) = table
+        .get(TABLE_HEAD..)
+        .unwrap_or(&[])
+        .as_chunks::<PAGE_WORDS>();
     for (p, page) in pages.iter().take(3).enumerate() {
         print!(rt; "\npage {p} |")?;
         numbers(rt, page)?;
