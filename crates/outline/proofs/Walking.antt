@@ -6,7 +6,6 @@ use mathlib.Core.List.{List, [], ◌∷◌, ◌++◌}
 use native.Mathlib.Nat.{zero-add}
 use native.Mathlib.Omega.{arith}
 use Rattle.std.specs.Prelude.{Some, None}
-use lib.IntN.{ℤ, ◌+ℤ◌, +ℤ_assoc, +ℤ_idr}
 use lib.ListN.{length, get_or}
 use Rattle.outline.specs.declared.Point.{Point}
 use Rattle.outline.specs.declared.Edge.{Edge}
@@ -92,7 +91,7 @@ total-walked S f (p ∷ ps) =
     ∙ ap (total S f) (sym (path-last p ps p))
 
 module _ (ps : List Point) where
-  area-walked : area_twice (closing_first ps) ≡ area_twice (edges ps)
+  pub area-walked : area_twice (closing_first ps) ≡ area_twice (edges ps)
   area-walked = area-total (closing_first ps) ∙ total-walked integers cross ps ∙ sym (area-total (edges ps))
 
   module _ (p : Point) where
@@ -130,12 +129,3 @@ module _ (p : Point) (es : List Edge) (e : Edge) (rest : List Edge) (next : es �
   parity-more t inside m =
       let more : crossings es p ≡ cond t 1 0 + crossings rest p = ap (λ (fs : List Edge). crossings fs p) next ∙ rw ((met-off e p t m).1) in
       rw (more, unlike t inside) (odd-more t inside (crossings rest p))
-
--- the area of the edges passed, and of those left
-pub area-more : (a z : ℤ) (es : List Edge) (e : Edge) (rest : List Edge) → es ≡ e ∷ rest → z ≡ cross e → (a +ℤ z) +ℤ area_twice rest ≡ a +ℤ area_twice es
-unfolding area_twice
-area-more a z es e rest next c = +ℤ_assoc a z (area_twice rest) ∙ ap (λ (w : ℤ). a +ℤ w) (ap (λ (w : ℤ). w +ℤ area_twice rest) c ∙ sym (ap area_twice next))
-
-pub area-end : (ps : List Point) (a : ℤ) (es : List Edge) → es ≡ [] → a +ℤ area_twice es ≡ area_twice (closing_first ps) → a ≡ area_twice (edges ps)
-unfolding area_twice
-area-end ps a es end h = sym (+ℤ_idr a) ∙ ap (λ (fs : List Edge). a +ℤ area_twice fs) (sym end) ∙ h ∙ area-walked ps

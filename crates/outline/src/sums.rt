@@ -25,10 +25,6 @@ impl Outline<'_> {
     pub fn twice_area(&self) -> i64
         ensures { result ≡ area_twice (edges self.now) }
     {
-        let mut twice_area: i64 = 0;
-        for edge in self.edges() {
-            twice_area += cross(edge);
-        }
-        twice_area
+        self.edges().map(cross).sum()
     }
 }

@@ -19,7 +19,7 @@ const STRIPS: usize = 3;
 const THOUSAND: u64 = 1_000;
 
 /// The piece's area in a tile, the whole thousandths of the piece's area that this is, and what that division leaves over.
-#[derive(Clone, Copy, Debug, Default, PartialEq, Eq)]
+#[derive(Clone, Copy, Debug, PartialEq, Eq)]
 pub struct TileShare {
     pub area: u64,
     pub thousandths: u64,

@@ -86,10 +86,6 @@ impl Sides {
         let heights = self.y.cut(lines.y);
         let widths = self.x.cut(lines.x);
         let whole = self.area();
-        let mut shares = [TileShare::default(); TILES];
-        for (t, share) in shares.iter_mut().enumerate() {
-            *share = TileShare::new(heights[t / STRIPS] * widths[t % STRIPS], whole);
-        }
-        shares
+        std::array::from_fn(|t| TileShare::new(heights[t / STRIPS] * widths[t % STRIPS], whole))
     }
 }

@@ -1,25 +1,27 @@
--- Each edge of the walk adds its part.
-use mathlib.Core.Path.{◌≡◌, ap, ◌∙◌}
+-- The edges come in the order of the walk, and each adds its part.
 use native.Mathlib.Omega.{arith}
-use lib.IntN.{ℤ, ◌+ℤ◌}
-use lib.ListN.{length}
+use mathlib.Core.Path.{◌∙◌, ap}
 use mir.Syntax.{w64}
-use mir.Val.{to_z, of_z}
-use Rattle.std.proofs.lemmas.Int.{ints}
-use Rattle.outline.specs.Area.{area_twice}
-use Rattle.outline.proofs.Walking.{area-more, area-end}
+use Rattle.std.proofs.Common.{rules, tests}
+use Rattle.std.proofs.lemmas.Int.{to_z-of_z}
+use Rattle.std.proofs.lemmas.Iterator.{YieldsList-from_map}
+use Rattle.std.proofs.lemmas.Iterator.Consumers.{YieldsList-from_first}
+use Rattle.std.proofs.lemmas.Iterator.Adapters.{at_most_from_yields_List}
+use Rattle.outline.specs.Outline.{MOST_POINTS}
+use Rattle.outline.specs.Area.{cross, area_twice}
+use Rattle.outline.specs.Steps.{LARGEST}
+use Rattle.outline.proofs.Walking.{area-walked}
+use Rattle.outline.proofs.Summing.{summed, fits_within}
 use Rattle.outline.proofs.words.Outline.twice_area.Goals as goal
 
-pub loop-edge-preserved : goal.loop-edge-preserved
-loop-edge-preserved c =
-    let step = c.in-Some.ensures.steps in
-    let a : ℤ = to_z w64 c.loop-edge.twice_area-bits in
-    let z : ℤ = to_z w64 (of_z w64 c.cross-twice_area.result) in
-    let sum : to_z w64 (of_z w64 (a +ℤ z)) ≡ a +ℤ z = omega (arith, ints) in
-    record {
-      whole = ap (λ (w : ℤ). w +ℤ area_twice c.next.new.self) sum ∙ area-more a z _ _ _ step (omega (arith, ints) ∙ c.cross-twice_area.ensures.cross) ∙ c.loop-edge.invariant.whole;
-      fits = omega (arith, ints, ap length step);
-    }
+pub sum-requires-clause-fits : goal.sum-requires-clause-fits
+sum-requires-clause-fits c =
+    fits_within _ _ _ LARGEST (λ x r q k. search (rules, tests)) MOST_POINTS
+    (at_most_from_yields_List (YieldsList-from_first (λ x. x) (λ es. es) c.edges.result c.map.ensures.source) c.edges.ensures.most) c.map.ensures.closure (omega arith)
 
 pub returns : goal.returns
-returns c = area-end _ _ _ c.in-None.ensures.steps.0 c.loop-edge.invariant.whole
+returns c =
+    to_z-of_z w64 c.sum.result (record { sfits = c.sum.type_inv })
+    ∙ (summed c.edges.result c.sum.result c.sum.ensures.ran
+    (YieldsList-from_map _ cross (YieldsList-from_first (λ x. x) (λ es. es) c.edges.result c.map.ensures.source) c.map.ensures.closure (λ x r q k. search (rules, tests)))
+    ∙ ap area_twice c.edges.ensures.edges ∙ area-walked c.args.self.now)

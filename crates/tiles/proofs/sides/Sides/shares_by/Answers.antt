@@ -1,28 +1,40 @@
--- After t turns the first t tiles have their shares.
-use Prim.Native.Nat.{◌<◌, ◌/◌, ◌%◌}
-use mathlib.Core.Path.{◌∙◌}
-use mathlib.Core.Logic.{◌≢◌}
+use mathlib.Core.Path.{◌≡◌, refl}
+use Prim.Native.Nat.{ℕ, ◌*◌, ◌/◌, ◌%◌, ◌≤◌, ◌<◌}
 use native.Mathlib.Omega.{arith}
 use native.Mathlib.Nat.{mul-le-mul}
-use lib.ListN.{length, length-set}
-use Rattle.std.proofs.Common.{below_more, get_or-set_other, get_or-set_same}
-use Rattle.tiles.specs.Steps.{product}
+use lib.ListN.{get_or}
+use Rattle.std.proofs.Common.{rules, tests}
+use Rattle.std.proofs.iter.Yields.{serves_by}
+use Rattle.tiles.specs.declared.TileShare.{TileShare}
+use Rattle.tiles.specs.Tiles.{TILES}
+use Rattle.tiles.specs.Steps.{MOST_AREA, product, share_of}
+use Rattle.tiles.proofs.Arrays.{made}
 use Rattle.tiles.proofs.Called.{cut-shares}
 use Rattle.tiles.proofs.sides.Sides.shares_by.Goals as goal
 
-pub new-requires-clause-area : goal.new-requires-clause-area
-new-requires-clause-area c = mul-le-mul (c.cut-heights.ensures.short (c.loop-t.t / 3) (omega arith)) (c.cut-widths.ensures.short (c.loop-t.t % 3) (omega arith))
-
-pub loop-t-preserved : goal.loop-t-preserved
-unfolding product
-loop-t-preserved c =
-    let lt : c.loop-t.t < length c.loop-t.share-items = omega arith in
-    record {
-      long = length-set _ _ _ ∙ c.loop-t.invariant.long;
-      each =
-          below_more _ _ (λ k h. let ne : k ≢ c.loop-t.t = omega arith in rw get_or-set_other (c.loop-t.invariant.each k h))
-          (rw get_or-set_same c.new.ensures);
-    }
+pub from_fn-requires : goal.from_fn-requires
+from_fn-requires c = (
+  omega arith,
+  serves_by _ (λ xs p. (p.0.now ≡ c.cut-heights.result) × (p.1.now ≡ c.cut-widths.result) × (p.2.now ≡ c.area-whole.result)) (λ xs q x v j r. search (rules, tests))
+      _ _ _ _ (refl, refl, refl)
+      (λ xs t q x u y e j.
+      let area : get_or q.0.now (x / 3) 0 * get_or q.1.now (x % 3) 0 ≤ MOST_AREA =
+      rw (j.0, j.1)
+      (mul-le-mul (c.cut-heights.ensures.short (x / 3) (omega (arith, e.0))) (c.cut-widths.ensures.short (x % 3) (omega (arith, e.0)))) in
+      let whole : 0 < q.2.now = rw j.2 c.area-whole.ensures.some in (
+        (λ κs p n h r. omega (arith, e.0)),
+        (λ κs p n h r a. omega (arith, e.0)),
+        (λ κs p n h r a _ f. omega arith),
+        (λ κs p n h r a _ f b. omega arith),
+        (λ κs p n h r a _ f b _ k. omega (arith, area)),
+        (λ κs p n h r a _ f b _ k w _. (area, whole)),
+      )),
+)
 
 pub returns : goal.returns
-returns c = cut-shares _ _ _ _ _ _ c.cut-heights.ensures.cut c.cut-widths.ensures.cut c.area-whole.ensures.area c.loop-t.invariant.long (λ t l. c.loop-t.invariant.each t (omega arith))
+unfolding product
+returns c =
+    let long = c.from_fn.ensures.items.long in
+    let share : ℕ → TileShare = λ i. share_of (product c.cut-heights.result c.cut-widths.result i) c.area-whole.result in
+    cut-shares _ _ _ _ _ _ c.cut-heights.ensures.cut c.cut-widths.ensures.cut c.area-whole.ensures.area long
+    (λ t l. made _ share _ (λ i r q k. search (rules, tests)) c.from_fn.result (share_of 0 0) TILES t l c.from_fn.ensures.items)
