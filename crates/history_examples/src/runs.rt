@@ -3,7 +3,7 @@ use crate::draws::Generator;
 use crate::lays::{Lay, MOST_CALLS, sized, write};
 use history::CALL_WORDS;
 use pages::{COUNT, PAGE_COUNT, Rect, TABLE_WORDS};
-use printing::{ask, checksum, number, print_head};
+use printing::{ask, checksum, head_and_sum, number};
 use refusals::{ACCEPTED, Refusal, refusal_of};
 use std::io;
 
@@ -182,6 +182,6 @@ pub fn print_run(rt: &impl Print, run: Run, answer: &mut [u16]) -> io::Result<()
     place_all(calls, &mut table, returned);
     print_refusals(rt, returned)?;
     print!(rt; "end")?;
-    print_head(rt, &table)?;
+    head_and_sum(rt, &table)?;
     questions(rt, run, &table, answer)
 }

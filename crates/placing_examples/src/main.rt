@@ -2,7 +2,7 @@
 #![tactic(auto)]
 
 use pages::{PAGE_WORDS, PIECE_COUNT, Rect, TABLE_HEAD, TABLE_WORDS};
-use printing::{ask, checksum, edges, number, numbers, print_head, range, store, word};
+use printing::{ask, checksum, edges, head, head_and_sum, number, numbers, store, word};
 use refusals::refusal_of;
 use std::io;
 
@@ -44,7 +44,7 @@ fn place_nine(rt: &impl Print, table: &mut [u32]) -> io::Result<()> {
 
 fn print_nine(rt: &impl Print, table: &[u32]) -> io::Result<()> {
     print!(rt; "head")?;
-    range(rt, table, 0, TABLE_HEAD)?;
+    head(rt, table)?;
     let (pages, _) = table
         .get(TABLE_HEAD..)
         .unwrap_or(&[])
@@ -94,7 +94,7 @@ fn unsound_calls(rt: &impl Print, table: &mut [u32]) -> io::Result<()> {
     store(table, 0, 0);
     print_refused(rt, "unsound", table)?;
     print!(rt; "empty {}", refusal_of(&pages::empty(table)))?;
-    print_head(rt, table)
+    head_and_sum(rt, table)
 }
 
 fn main(rt: HostRuntime) -> io::Result<()> {

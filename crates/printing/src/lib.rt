@@ -7,7 +7,7 @@ ghost use Rattle.std.specs.Prelude.{◌≡◌, get_or, set};
 use pages::Rect;
 use query::Answer;
 use std::fmt::Display;
-use std::{io, iter};
+use std::io;
 
 // How many numbers of a listing are printed; the checksum has them all.
 const SHOWN: u32 = 24;
@@ -43,14 +43,6 @@ pub fn word(list: &[u32], i: usize) -> u32
     list.get(i).copied().unwrap_or(0)
 }
 
-// The words from `from` on.
-pub fn range(rt: &impl Print, list: &[u32], from: usize, count: usize) -> io::Result<()> {
-    for n in list.iter().skip(from).chain(iter::repeat(&0)).take(count) {
-        number(rt, n)?;
-    }
-    Ok(())
-}
-
 // From zero, (31 sum + word) mod 2^32 for each word in turn.
 pub fn checksum<N: Copy>(rt: &impl Print, list: &[N]) -> io::Result<()>
 where
@@ -63,9 +55,14 @@ where
     number(rt, sum)
 }
 
+// The words before the pages.
+pub fn head(rt: &impl Print, table: &[u32]) -> io::Result<()> {
+    numbers(rt, table.get(..pages::TABLE_HEAD).unwrap_or(table))
+}
+
 // The words before the pages, and the sum of all.
-pub fn print_head(rt: &impl Print, table: &[u32]) -> io::Result<()> {
-    range(rt, table, 0, pages::TABLE_HEAD)?;
+pub fn head_and_sum(rt: &impl Print, table: &[u32]) -> io::Result<()> {
+    head(rt, table)?;
     checksum(rt, table)?;
     println!(rt)
 }
