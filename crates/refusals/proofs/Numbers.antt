@@ -2,7 +2,8 @@
 use native.Mathlib.Omega.{arith}
 use mathlib.Core.Path.{◌≡◌}
 use Rattle.refusals.specs.declared.Refusal.{Refusal}
-use Rattle.refusals.specs.declared.Refusal.TheVariants.{TableTooShort, RectangleNotValid, NumberTooLarge, ClauseCount, ClauseNotValid, TableNotSound, AlreadyStanding, AnswerTooShort, PointCount, CoordinateTooLarge}
+use Rattle.refusals.specs.declared.Refusal.TheVariants.{TableTooShort, RectangleNotValid, NumberTooLarge, ClauseCount, ClauseNotValid}
+use Rattle.refusals.specs.declared.Refusal.TheVariants.{TableNotSound, AlreadyStanding, AnswerTooShort, PointCount, CoordinateTooLarge}
 use Rattle.refusals.specs.Numbers.{number_of}
 
 -- a refusal has another number than an accepted call

@@ -1,7 +1,8 @@
 -- The numbers of the refusals; "Zero means accepted".
 use Rattle.std.specs.Prelude.{ℕ, Result, Ok, Err}
 use Rattle.refusals.specs.declared.Refusal.{Refusal}
-use Rattle.refusals.specs.declared.Refusal.TheVariants.{TableTooShort, RectangleNotValid, NumberTooLarge, ClauseCount, ClauseNotValid, TableNotSound, AlreadyStanding, AnswerTooShort, PointCount, CoordinateTooLarge}
+use Rattle.refusals.specs.declared.Refusal.TheVariants.{TableTooShort, RectangleNotValid, NumberTooLarge, ClauseCount, ClauseNotValid}
+use Rattle.refusals.specs.declared.Refusal.TheVariants.{TableNotSound, AlreadyStanding, AnswerTooShort, PointCount, CoordinateTooLarge}
 
 abbrev pub number_of : Refusal → ℕ
 number_of TableTooShort = 1

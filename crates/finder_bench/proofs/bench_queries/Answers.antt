@@ -31,4 +31,6 @@ loop-words-preserved c =
 pub returns : goal.returns
 returns c =
     let a = c.args in
-    subst (λ w. ◌≡◌ (c.loop-words.hits, c.loop-words.answer) (asked_all w a.references.now a.clauses.now a.answer.now)) c.in-Ok.ensures.words (all_asked _ _ _ _ c.loop-words.words-index _ (omega arith) c.loop-words.invariant)
+    let l = c.loop-words in
+    let asked-all = all_asked _ _ _ _ l.words-index _ (omega arith) l.invariant in
+    subst (λ w. ◌≡◌ (l.hits, l.answer) (asked_all w a.references.now a.clauses.now a.answer.now)) c.in-Ok.ensures.words asked-all
