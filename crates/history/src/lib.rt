@@ -8,37 +8,22 @@ ghost use Rattle.pages.specs.Sound.{sound};
 ghost use Rattle.placing.specs.Calls.{place_sound};
 ghost use Rattle.history.specs.Replay.{Marked, replay_call};
 
-use pages::{NUMBERS, PIECES, Rect, TABLE_WORDS};
+use pages::{NUMBERS, Piece, TABLE_WORDS};
 use refusals::{Refusal, refusal_of};
 
 // The words of a place call: number, x1, y1, x2, y2.
 pub const CALL_WORDS: usize = 5;
 
 // A place call on a sound table. The marks say which numbers stand in it, so that no leaf is searched.
-#[tactic(auto, using(placing::proofs::Called::call_too_large))]
-fn place_marked(
-    table: &mut [u32],
-    marks: &mut [bool; NUMBERS],
-    number: u32,
-    rect: Rect,
-) -> Result<(), Refusal>
+fn place_marked(table: &mut [u32], marks: &mut [bool; NUMBERS], piece: Piece) -> Result<(), Refusal>
     requires long { TABLE_WORDS ≤ length table.old }
     requires sound { T (sound table.old) }
     requires marked { Marked table.old marks.old }
-    ensures answer { (refusal_of result, table.new) ≡ place_sound table.old number rect }
+    ensures answer { (refusal_of result, table.new) ≡ place_sound table.old piece.number piece.rect }
     ensures marked { Marked table.new marks.new }
 {
-    if !rect.is_valid() {
-        return Err(Refusal::RectangleNotValid);
-    }
-    if number >= PIECES {
-        return Err(Refusal::NumberTooLarge);
-    }
-    if marks[number as usize] {
-        return Err(Refusal::AlreadyStanding);
-    }
-    placing::place_new(table, number, rect);
-    marks[number as usize] = true;
+    placing::place_where(table, piece, |_, number| marks[number as usize])?;
+    marks[piece.number as usize] = true;
     Ok(())
 }
 
@@ -56,9 +41,8 @@ pub fn replay(table: &mut [u32], calls: &[u32], refusals: &mut [u32]) -> Result<
     }
     pages::empty(table)?;
     let mut marks = [false; NUMBERS];
-    for (i, &[number, x1, y1, x2, y2]) in groups.iter().enumerate() {
-        let rect = Rect { x1, y1, x2, y2 };
-        refusals[i] = refusal_of(&place_marked(table, &mut marks, number, rect));
+    for (i, &call) in groups.iter().enumerate() {
+        refusals[i] = refusal_of(&place_marked(table, &mut marks, Piece::from(call)));
     }
     Ok(())
 }

@@ -7,6 +7,7 @@ use mathlib.Core.Bool.{Bool, true, false, not, cond}
 use mathlib.Core.List.{List}
 use lib.ListN.{length}
 use lib.Dec.{T, leb, eqb}
+use Rattle.std.proofs.lemmas.Bool.{eqb-false}
 use borrow.Author.Tests.{leb-false, le-leb, lt-leb, eqb-true, eq-eqb, ne_eqb}
 use Rattle.pages.specs.declared.Rect.{Rect}
 use Rattle.pages.specs.Sizes.{PIECES, TABLE_WORDS}
@@ -59,6 +60,22 @@ call-stands w n r e l s = sym (answer w n r ALREADY_STANDING (refusal-open w n r
 
 pub call-done : (w : List ℕ) (n : ℕ) (r : Rect) → valid r ≡ true → n < PIECES → stored (table_in w) n ≡ 0 → (ACCEPTED, placed_words w n r) ≡ place_sound w n r
 call-done w n r e l s = sym (answer w n r ACCEPTED (refusal-open w n r ∙ rw (e, lt-leb PIECES n l, eq-eqb (stored (table_in w) n) 0 s)))
+
+-- what an answer says of the words that are left
+module _ (w : List ℕ) (n : ℕ) (r : Rect) (m : ℕ) (v : List ℕ) (h : (m, v) ≡ place_sound w n r) where
+  pub answer-accepted : m ≡ ACCEPTED → (place_refusal w n r ≡ ACCEPTED) × (v ≡ placed_words w n r)
+  answer-accepted z = go (eqb (place_refusal w n r) ACCEPTED) refl (h ∙ sound-open w n r)
+    where
+      go : (b : Bool) → eqb (place_refusal w n r) ACCEPTED ≡ b → (m, v) ≡ answered w n r (place_refusal w n r) b → (place_refusal w n r ≡ ACCEPTED) × (v ≡ placed_words w n r)
+      go true e p = (eqb-true _ ACCEPTED e, ap (λ x. x.1) p)
+      go false e p = absurd (eqb-false _ ACCEPTED e (sym (ap (λ x. x.0) p) ∙ z))
+
+  pub answer-refused : m ≢ ACCEPTED → v ≡ w
+  answer-refused k = go (eqb (place_refusal w n r) ACCEPTED) (h ∙ sound-open w n r)
+    where
+      go : (b : Bool) → (m, v) ≡ answered w n r (place_refusal w n r) b → v ≡ w
+      go true p = absurd (k (ap (λ x. x.0) p))
+      go false p = ap (λ x. x.1) p
 
 -- accepted or refused, the table is sound again, and the slice as long
 pub call-keeps : (w : List ℕ) (n : ℕ) (r : Rect) → TABLE_WORDS ≤ length w → T (sound w) → T (sound (place_sound w n r).1) × (length (place_sound w n r).1 ≡ length w)

@@ -9,18 +9,19 @@ mod words;
 
 ghost use Rattle.std.specs.Prelude.{◌≡◌, ◌≤◌, ◌<◌, length, get_or, T, leb};
 ghost use Rattle.refusals.specs.Numbers.{refusal_of};
-ghost use Rattle.pages.specs.Sizes.{PIECES, FANOUT, PAGES, TABLE_WORDS};
-ghost use Rattle.pages.specs.Rectangles.{valid};
+ghost use Rattle.pages.specs.Sizes.{PIECES, FANOUT, TABLE_WORDS};
 ghost use Rattle.pages.specs.Layout.{page_words, table_in};
 ghost use Rattle.pages.specs.Sound.{stored, sound};
 ghost use Rattle.placing.specs.Calls.{placed_words, place_sound, place_call};
+ghost use Rattle.placing.specs.Standing.{KnowsStanding};
 ghost use Rattle.placing.specs.Steps.{split_into, add_to, bounds_at, entry_for_in, widen_entry, parted, place_at, root_made};
 
 use choice::choose;
 use number::PageNumber;
 use order::ordered_nine;
 use pages::{
-    COUNT, Entry, FANOUT, LEVEL, PAGE_COUNT, PIECE_COUNT, PIECES, ROOT, Rect, TABLE_WORDS,
+    COUNT, Entry, FANOUT, LEVEL, PAGE_COUNT, PIECE_COUNT, PIECES, Piece, ROOT, Rect, TABLE_WORDS,
+    ValidRect,
 };
 use refusals::Refusal;
 use search::stands;
@@ -151,9 +152,9 @@ fn make_root(table: &mut [u32; TABLE_WORDS], root: u32, q: u32, level: u32)
 }
 
 // A place call that nothing refuses.
-pub fn place_new(table: &mut [u32], number: u32, rect: Rect)
-    requires { (TABLE_WORDS ≤ length table.old) × T (sound table.old) × T (valid rect) × (number < PIECES) × (stored (table_in table.old) number ≡ 0) }
-    ensures { table.new ≡ placed_words table.old number rect }
+fn place_new(table: &mut [u32], number: u32, rect: ValidRect)
+    requires { (TABLE_WORDS ≤ length table.old) × T (sound table.old) × (number < PIECES) × (stored (table_in table.old) number ≡ 0) }
+    ensures { table.new ≡ placed_words table.old number rect.rect }
 {
     match table.first_chunk_mut() {
         Some(words) => place_words(words, number, rect),
@@ -162,42 +163,56 @@ pub fn place_new(table: &mut [u32], number: u32, rect: Rect)
 }
 
 // The same over the words of the table.
-fn place_words(table: &mut [u32; TABLE_WORDS], number: u32, rect: Rect)
-    requires { T (sound table.old) × T (valid rect) × (number < PIECES) × (stored (table_in table.old) number ≡ 0) }
-    ensures { table.new ≡ placed_words table.old number rect }
+fn place_words(table: &mut [u32; TABLE_WORDS], number: u32, rect: ValidRect)
+    requires { T (sound table.old) × (number < PIECES) × (stored (table_in table.old) number ≡ 0) }
+    ensures { table.new ≡ placed_words table.old number rect.rect }
 {
     let root = table[ROOT];
     let count = table[PIECE_COUNT];
     let level = pages::page_of(table, root as usize)[LEVEL];
-    let e = Entry { rect, r: number };
+    let e = Entry {
+        rect: rect.rect,
+        r: number,
+    };
     if let Some(part) = place_at(table, level, root, e) {
         make_root(table, root, part, level + 1);
     }
     table[PIECE_COUNT] = count + 1;
 }
 
-// A place call on a sound table.
-pub fn place_sound(table: &mut [u32], number: u32, rect: Rect) -> Result<(), Refusal>
-    requires { (TABLE_WORDS ≤ length table.old) × T (sound table.old) }
-    ensures { (refusal_of result, table.new) ≡ place_sound table.old number rect }
+// A place call on a sound table, of which `stands` knows whether it holds the number.
+pub fn place_where<F: FnOnce(&[u32], u32) -> bool>(
+    table: &mut [u32],
+    piece: Piece,
+    stands: F,
+) -> Result<(), Refusal>
+    requires sound { (TABLE_WORDS ≤ length table.old) × T (sound table.old) }
+    requires knows { KnowsStanding F.FnOnce stands table.old piece.number }
+    ensures { (refusal_of result, table.new) ≡ place_sound table.old piece.number piece.rect }
 {
-    if !rect.is_valid() {
-        return Err(Refusal::RectangleNotValid);
-    }
-    if number >= PIECES {
+    let rect = ValidRect::try_from(piece.rect)?;
+    if piece.number >= PIECES {
         return Err(Refusal::NumberTooLarge);
     }
-    if stands(table, number) {
+    if stands(table, piece.number) {
         return Err(Refusal::AlreadyStanding);
     }
-    place_new(table, number, rect);
+    place_new(table, piece.number, rect);
     Ok(())
 }
 
+// A place call on a sound table.
+pub fn place_sound(table: &mut [u32], piece: Piece) -> Result<(), Refusal>
+    requires { (TABLE_WORDS ≤ length table.old) × T (sound table.old) }
+    ensures { (refusal_of result, table.new) ≡ place_sound table.old piece.number piece.rect }
+{
+    place_where(table, piece, stands)
+}
+
 // A place call on any words.
-pub fn place(table: &mut [u32], number: u32, rect: Rect) -> Result<(), Refusal>
-    ensures { (refusal_of result, table.new) ≡ place_call table.old number rect }
+pub fn place(table: &mut [u32], piece: Piece) -> Result<(), Refusal>
+    ensures { (refusal_of result, table.new) ≡ place_call table.old piece.number piece.rect }
 {
     soundness::check(table)?;
-    place_sound(table, number, rect)
+    place_sound(table, piece)
 }

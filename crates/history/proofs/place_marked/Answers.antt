@@ -1,29 +1,24 @@
--- Each refusal by its condition, refusal 7 by the mark; what none of them says is what `place_new` asks for.
+-- A refused call leaves the table as it was, and an accepted one places a number that had no mark.
+use mathlib.Core.Path.{sym, ap, subst⁻¹, ◌∙◌}
 use Rattle.std.proofs.Common.{rules}
-use mathlib.Core.Path.{sym, ap, ◌∙◌, subst}
-use lib.Dec.{T}
-use Rattle.pages.specs.Refusals.{ACCEPTED}
-use Rattle.placing.proofs.Called.{call-not-valid, call-stands, call-done}
-use Rattle.history.proofs.Marking.{marked-stands, marked-free, marked-placed}
+use Rattle.refusals.proofs.Numbers.{number-some}
+use Rattle.refusals.specs.Numbers.{refusal_of}
+use Rattle.placing.proofs.Called.{call-accepted, answer-accepted, answer-refused}
+use Rattle.history.specs.Replay.{Marked}
+use Rattle.history.proofs.Marking.{marked-placed}
 use Rattle.history.proofs.place_marked.Goals as goal
 
-pub returns-then-not-is_valid-clause-answer : goal.returns-then-not-is_valid-clause-answer
-returns-then-not-is_valid-clause-answer c = call-not-valid _ _ _ (sym c.is_valid.ensures ∙ c.if-not-is_valid.true)
+pub returns-in_err-place_where-clause-marked : goal.returns-in_err-place_where-clause-marked
+returns-in_err-place_where-clause-marked c =
+    subst⁻¹ (λ w. Marked w c.args.marks.now) (answer-refused _ _ _ _ _ c.place_where.ensures (λ z. number-some _ (sym (ap refusal_of c.in_err-place_where.was) ∙ z))) c.requires.marked
 
-pub returns-then-marks-number-clause-answer : goal.returns-then-marks-number-clause-answer
-returns-then-marks-number-clause-answer c =
-    let l = c.if-number-ge-PIECES.false in
-    call-stands _ _ _ (sym c.is_valid.ensures ∙ c.if-not-is_valid.false) l (marked-stands _ _ c.requires.marked _ l c.if-marks-number.true)
-
-pub returns-clause-answer : goal.returns-clause-answer
-returns-clause-answer c =
-    let l = c.if-number-ge-PIECES.false in
-    let v = sym c.is_valid.ensures ∙ c.if-not-is_valid.false in
-    ap (λ u. (ACCEPTED, u)) c.place_new.ensures ∙ call-done _ _ _ v l (marked-free _ _ c.requires.marked _ l c.if-marks-number.false)
+pub bounds-marks-piece : goal.bounds-marks-piece
+bounds-marks-piece c =
+    let a = answer-accepted _ _ _ _ _ c.place_where.ensures (ap refusal_of c.in_ok-place_where.was) in
+    (call-accepted _ _ _ a.0).1
 
 pub returns-clause-marked : goal.returns-clause-marked
 returns-clause-marked c =
-    let m = c.requires.marked in
-    let l = c.if-number-ge-PIECES.false in
-    let v = sym c.is_valid.ensures ∙ c.if-not-is_valid.false in
-    marked-placed _ _ _ c.requires.sound (subst T (sym v) tt) l (marked-free _ _ m _ l c.if-marks-number.false) _ c.args.marks.now c.place_new.ensures (search rules) m
+    let a = answer-accepted _ _ _ _ _ c.place_where.ensures (ap refusal_of c.in_ok-place_where.was) in
+    let p = call-accepted _ _ _ a.0 in
+    marked-placed _ _ _ c.requires.sound p.0 p.1 p.2 _ c.args.marks.now a.1 (search rules) c.requires.marked

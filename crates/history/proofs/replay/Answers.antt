@@ -4,6 +4,8 @@ use mathlib.Core.List.{[], map}
 use lib.ListN.{length, get_or, take}
 use lib.Seq.{take-length, length-take-le}
 use Rattle.std.proofs.lemmas.List.{length-map, map_more}
+use Rattle.pages.specs.declared.piece.Piece.{Piece}
+use Rattle.placing.specs.Calls.{place_sound}
 use Rattle.history.specs.Replay.{call_in, calls_of}
 use Rattle.history.proofs.Reached.{reached-emptied}
 use Rattle.history.proofs.Marking.{marked-none}
@@ -27,7 +29,7 @@ loop-i-preserved c =
     let at = c.loop-i in
     let groups = c.as_chunks.result.0.now in
     let count = length-map (take at.i groups) call_in ∙ length-take-le at.i groups (omega arith) in
-    let answer = ap (λ k. (k, c.place_marked.new.table)) c.refusal_of.ensures ∙ c.place_marked.ensures.answer in
+    let answer = ap (λ k. (k, c.place_marked.new.table)) c.refusal_of.ensures ∙ c.place_marked.ensures.answer ∙ ap (λ (p : Piece). place_sound at.table p.number p.rect) c.from.ensures in
     record {
       so_far = rw (map_more call_in groups at.i [] c.loop-i-test.true)
           (progress-more at.invariant.so_far (call_in (get_or groups at.i [])) c.place_marked.new.table c.refusal_of.result at.i count (omega arith) answer);
