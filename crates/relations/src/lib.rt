@@ -7,7 +7,8 @@ ghost use Rattle.relations.specs.Sets.{listed, ones_from};
 ghost use Rattle.relations.specs.Axis.{CODES, code, IsCode};
 ghost use Rattle.relations.specs.Relation.{sets_of};
 ghost use Rattle.relations.specs.Query.{count_of, some_bad, refusal_of as clauses_refusal, admitted_of, admitted_set_of};
-ghost use Rattle.relations.specs.Steps.{side_of, named_row, with_relation, cut_to, union_of, joined_of, node_masks, page_test, open_at, near_by, inner_by, overlap_by, rows_have};
+ghost use Rattle.relations.specs.Steps.{side_of, named_row, with_relation, cut_to};
+ghost use Rattle.relations.specs.Steps.{union_of, joined_of, node_masks, page_test, open_at, near_by, inner_by, overlap_by, rows_have};
 
 mod set_bits;
 
@@ -261,11 +262,7 @@ fn joined_row(rows: &[u16; CODES], codes: u16) -> u16
 fn joined(rows: &[u16; CODES]) -> [u16; CODES]
     ensures { result ≡ joined_of rows.now }
 {
-    let mut below = [0; CODES];
-    for (c, row) in below.iter_mut().enumerate() {
-        *row = joined_row(rows, NODE_MASKS[c]);
-    }
-    below
+    NODE_MASKS.map(|mask| joined_row(rows, mask))
 }
 
 impl PageTest {
