@@ -14,6 +14,7 @@ pub mod Visit
 pub mod Zeros
 pub mod Bounds
 pub mod Firsts
+pub mod Arrays
 pub mod EmptyTable
 pub mod Examples
 pub mod Claimed

@@ -2,6 +2,7 @@
 pub mod Sizes
 pub mod Lists
 pub mod Rectangles
+pub mod Pieces
 pub mod Layout
 pub mod Sound
 pub mod Refusals

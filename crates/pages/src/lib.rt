@@ -13,8 +13,10 @@ ghost use Rattle.pages.specs.Left.{left};
 ghost use Rattle.pages.specs.Calls.{empty_call};
 
 mod iter;
+mod piece;
 
 pub use iter::PageEntries;
+pub use piece::{Piece, ValidRect};
 use refusals::Refusal;
 
 // How many piece numbers there are.
@@ -119,13 +121,13 @@ pub fn page_of(table: &[u32], p: usize) -> &[u32; PAGE_WORDS]
     ensures { result.now ≡ page_words table.now p }
 {
     let at = TABLE_HEAD + PAGE_WORDS * p;
-    as_page(&table[at..at + PAGE_WORDS])
+    as_array(&table[at..at + PAGE_WORDS])
 }
 
-// Words as many as a page has. The length is known where this is inlined, so that it is not tested again.
+// The words, as many as the array has. The length is known where this is inlined, so that it is not tested again.
 #[inline(always)]
-fn as_page(words: &[u32]) -> &[u32; PAGE_WORDS]
-    requires { length words.now ≡ PAGE_WORDS }
+fn as_array<const N: usize>(words: &[u32]) -> &[u32; N]
+    requires { length words.now ≡ N }
     ensures { result.now ≡ words.now }
 {
     words.first_chunk().unwrap()
@@ -159,9 +161,10 @@ pub fn entry_of(page: &[u32; PAGE_WORDS], i: usize) -> Entry
     ensures { result ≡ entry_in page.now i }
 {
     let at = PAGE_HEAD + ENTRY_WORDS * i;
+    let [x1, y1, x2, y2, r] = *as_array::<ENTRY_WORDS>(&page[at..at + ENTRY_WORDS]);
     Entry {
-        rect: Rect::from([page[at], page[at + 1], page[at + 2], page[at + 3]]),
-        r: page[at + ENTRY_R],
+        rect: Rect { x1, y1, x2, y2 },
+        r,
     }
 }
 

@@ -1,5 +1,4 @@
 pub mod Sort
-pub mod Arrays
 pub mod Bounding
 pub mod Fill
 pub mod Keeps

@@ -1,4 +1,4 @@
--- The laws: `Arrays` (what `map` and `default` make), `Cutting` (a side cut at two lines), `Areas` (areas as products of two cuts), `Called` (what the call returns), then those of
+-- The laws: `Arrays` (what `default` makes), `Cutting` (a side cut at two lines), `Areas` (areas as products of two cuts), `Called` (what the call returns), then those of
 -- the claims. `Claimed` proves what `Claims` states.
 pub mod Arrays
 pub mod Cutting

@@ -3,16 +3,16 @@ use mathlib.Core.Path.{◌≡◌}
 use lib.ListN.{length}
 use Rattle.std.proofs.Common.{rules}
 use Rattle.tiles.specs.Calls.{no_shares}
-use Rattle.tiles.specs.Steps.{share_of}
-use Rattle.tiles.proofs.Arrays.{map_is, zeros}
+use Rattle.pages.proofs.Arrays.{mapped}
+use Rattle.tiles.proofs.Arrays.{zeros}
 use Rattle.tiles.proofs.SharesFromResultArrayTileShareTILESRefusal.from.Goals as goal
 
 pub returns-in-Ok : goal.returns-in-Ok
 returns-in-Ok c =
     let n : length c.in-Ok.tiles ≡ 9 = search rules in
-    let a = map_is _ (λ s. s.area) (share_of 0 0) c.in-Ok.tiles c.map.result 9 n (λ p x r q k. search rules) c.map.ensures.items in
-    let b = map_is _ (λ s. s.thousandths) (share_of 0 0) c.in-Ok.tiles c.map-in-Ok.result 9 n (λ p x r q k. search rules) c.map-in-Ok.ensures.items in
-    let d = map_is _ (λ s. s.remainder) (share_of 0 0) c.in-Ok.tiles c.map-in-Ok-2.result 9 n (λ p x r q k. search rules) c.map-in-Ok-2.ensures.items in
+    let a = mapped _ (λ s. s.area) _ (λ x r q k. search rules) c.in-Ok.tiles c.map.result 9 n c.map.ensures.items in
+    let b = mapped _ (λ s. s.thousandths) _ (λ x r q k. search rules) c.in-Ok.tiles c.map-in-Ok.result 9 n c.map-in-Ok.ensures.items in
+    let d = mapped _ (λ s. s.remainder) _ (λ x r q k. search rules) c.in-Ok.tiles c.map-in-Ok-2.result 9 n c.map-in-Ok-2.ensures.items in
     rw (c.in-Ok.is, a, b, d)
 
 pub returns-in-Err : goal.returns-in-Err

@@ -8,7 +8,7 @@ use Rattle.std.proofs.iter.Yields.{serves_by}
 use Rattle.tiles.specs.declared.TileShare.{TileShare}
 use Rattle.tiles.specs.Tiles.{TILES}
 use Rattle.tiles.specs.Steps.{MOST_AREA, product, share_of}
-use Rattle.tiles.proofs.Arrays.{made}
+use Rattle.pages.proofs.Arrays.{made}
 use Rattle.tiles.proofs.Called.{cut-shares}
 use Rattle.tiles.proofs.sides.Sides.shares_by.Goals as goal
 
