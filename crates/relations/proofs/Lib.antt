@@ -5,7 +5,6 @@ pub mod Tests
 pub mod Bits
 pub mod Lowest
 pub mod Filled
-pub mod Arrays
 pub mod Sides
 pub mod Zones
 pub mod Turned

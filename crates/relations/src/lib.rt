@@ -272,7 +272,11 @@ fn joined_row(rows: &[u16; CODES], codes: u16) -> u16
 fn joined(rows: &[u16; CODES]) -> [u16; CODES]
     ensures { result ≡ joined_of rows.now }
 {
-    NODE_MASKS.map(|mask| joined_row(rows, mask))
+    let mut below = [0; CODES];
+    for (c, row) in below.iter_mut().enumerate() {
+        *row = joined_row(rows, NODE_MASKS[c]);
+    }
+    below
 }
 
 impl PageTest {

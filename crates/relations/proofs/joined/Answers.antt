@@ -1,24 +1,25 @@
--- The sets are below 2 ^ 13, and each place has the union that its set gives.
-use Rattle.std.proofs.Common.{rules, ℕ, List, ◌<◌, ◌^◌, get_or, arith, ◌∙◌, ap}
-use Rattle.relations.specs.Sets.{listed, ones_from}
+-- After thirteen turns each place has the union that its set gives.
+use Rattle.std.proofs.Common.{ℕ, List, ◌<◌, ◌^◌, get_or, set, arith, ◌∙◌, sym, ap, subst}
+use Rattle.relations.specs.Sets.{ones_from}
 use Rattle.relations.specs.Axis.{CODES}
 use Rattle.relations.specs.Steps.{union_of}
-use Rattle.relations.proofs.Arrays.{element_has, mapped_at}
-use Rattle.relations.proofs.Bits.{listed_of}
-use Rattle.relations.proofs.Pages.{all-joined}
+use Rattle.relations.proofs.Filled.{filled_none, filled_more, filled-all}
+use Rattle.relations.proofs.Pages.{all-joined, masks_fit}
 use Rattle.relations.proofs.Quarter.{masks_are}
 use Rattle.relations.proofs.joined.Goals as goal
 
-abbrev small : ℕ → Type 0
-small mask = mask < 2 ^ CODES
+pub loop-c-init : goal.loop-c-init
+loop-c-init c = filled_none _ _ CODES (omega arith)
 
-pub map-requires : goal.map-requires
-map-requires c =
-    (omega arith, (omega arith, (omega arith, record { at = λ xs t q x u run folds step. λ _ _ _ _ _ _. element_has small _ xs t u x (search rules) run step })))
+pub joined_row-requires : goal.joined_row-requires
+joined_row-requires c = subst (λ (l : List ℕ). get_or l c.loop-c.c 0 < 2 ^ CODES) (sym masks_are) (masks_fit c.loop-c.c c.loop-c-test.true)
+
+pub loop-c-preserved : goal.loop-c-preserved
+loop-c-preserved c =
+    let at = c.loop-c.c in
+    ap (λ (l : List ℕ). set l at c.joined_row.result) c.loop-c.invariant
+    ∙ filled_more _ _ CODES at c.joined_row.result c.loop-c-test.true
+    (c.joined_row.ensures ∙ ap (λ (l : List ℕ). union_of c.args.rows.now 0 (ones_from 0 64 (get_or l at 0))) masks_are)
 
 pub returns : goal.returns
-returns c =
-    let rows = c.args.rows.now in
-    listed_of _ CODES c.map.result c.map.ensures.items.long
-    (λ k l. mapped_at _ (λ mask. union_of rows 0 (ones_from 0 64 mask)) _ (λ x r q k. search rules) _ c.map.result 0 0 CODES k l c.map.ensures.items)
-    ∙ ap (λ (l : List ℕ). listed (λ k. union_of rows 0 (ones_from 0 64 (get_or l k 0))) CODES) masks_are ∙ all-joined rows
+returns c = c.loop-c.invariant ∙ filled-all _ _ CODES _ (omega arith) ∙ all-joined _
