@@ -10,7 +10,7 @@ use lib.ListN.{length, drop}
 use lib.Seq.{sets, sets-eq}
 use lib.Dec.{T, ltb, eqb}
 use borrow.Author.Tests.{ltb-false, lt-ltb, le-ltb, ne_eqb}
-use Rattle.relations.specs.Query.{refusal_of, row_sets}
+use Rattle.relations.specs.Query.{refusal_of}
 use Rattle.relations.specs.Steps.{joined_of}
 use Rattle.pages.specs.declared.Rect.{Rect}
 use Rattle.pages.specs.Sizes.{PAGES, PIECES}
@@ -30,7 +30,7 @@ use Rattle.query.specs.Opening.{opened_pages}
 use Rattle.query.specs.Calls.{sound_refusal, no_answer, no_opened, query_listing, query_opened, query_answer, query_sound, opened_sound}
 use Rattle.query.specs.Steps.{admits_by, opens_by, hits_on, opened_listed}
 use Rattle.query.specs.Marks.{marked, no_marks, marked_numbers}
-use Rattle.query.specs.Search.{admits_in, opens_in, table_of, opened_in}
+use Rattle.query.specs.Search.{admits_in, opens_in, SearchFor, table_of, opened_in}
 use Rattle.query.specs.Visits.{VisitsAll}
 use Rattle.query.proofs.Root.{opened-few}
 use Rattle.query.proofs.Tests.{admits-same, opens-same, proper, reaches}
@@ -121,25 +121,25 @@ pub record Lists (w : List ℕ) (q : Rect) (clauses o m : List ℕ) : Type 0 whe
   pub small : length (marked_numbers m) ≤ PIECES
 
 -- the search of an accepted query
-module _ (s : Search) (w : List ℕ) (q : Rect) (clauses : List ℕ) (table : s.table.words.now ≡ w) (reference : s.reference ≡ q) (rows : s.set.rows ≡ row_sets clauses) where
+module _ {w : List ℕ} {q : Rect} {clauses : List ℕ} {s : Search} (search : SearchFor w q clauses s) where
   admits-is : admits_in s ≡ admits_rect clauses q
-  admits-is = ap₂ admits_by rows reference ∙ admits-same clauses q
+  admits-is = ap₂ admits_by search.rows search.reference ∙ admits-same clauses q
 
   opens-is : opens_in s ≡ opens clauses q
-  opens-is = ap₂ opens_by (s.joined ∙ ap joined_of rows) reference ∙ opens-same clauses q
+  opens-is = ap₂ opens_by (s.joined ∙ ap joined_of search.rows) search.reference ∙ opens-same clauses q
 
   pub opened-is : opened_in s ≡ query_opened w q clauses
   unfolding query_opened
-  opened-is = ap₂ (λ f x. opened_pages f (table_in x)) opens-is table
+  opened-is = ap₂ (λ f x. opened_pages f (table_in x)) opens-is search.table
 
   holds : T (sound w)
-  holds = subst (λ x. T (sound x)) table s.table.holds
+  holds = subst (λ x. T (sound x)) search.table s.table.holds
 
   listed-is : (m : List ℕ) → m ≡ marked no_marks (concat_map (hits_on (admits_in s) (table_of s)) (opened_in s)) → marked_numbers m ≡ query_listing w q clauses
   unfolding query_listing
   listed-is m e =
-      let v : T (valid q) = subst (λ x. T (valid x)) reference s.proper in
-      ap marked_numbers (e ∙ ap (marked no_marks) (ap₂ (λ f g. concat_map (hits_on f (table_of s)) (opened_pages g (table_of s))) admits-is opens-is ∙ ap (λ x. concat_map (hits_on (admits_rect clauses q) (table_in x)) (opened_pages (opens clauses q) (table_in x))) table))
+      let v : T (valid q) = subst (λ x. T (valid x)) search.reference s.reference.holds in
+      ap marked_numbers (e ∙ ap (marked no_marks) (ap₂ (λ f g. concat_map (hits_on f (table_of s)) (opened_pages g (table_of s))) admits-is opens-is ∙ ap (λ x. concat_map (hits_on (admits_rect clauses q) (table_in x)) (opened_pages (opens clauses q) (table_in x))) search.table))
       ∙ found (table_in w) (sound-in w holds) (admits_rect clauses q) (opens clauses q) (reaches clauses q (proper q v))
 
   -- what the marks of its walk list
@@ -158,7 +158,7 @@ module _ (s : Search) (w : List ℕ) (q : Rect) (clauses : List ℕ) (table : s.
   few-opened = rw opened-is (opened-small w holds q clauses)
 
   pub opened-fits : (o : List ℕ) → 0 ≡ sound_refusal q clauses (length o) (length (table_in w).pages) → length (table_of s).pages ≤ length o
-  opened-fits o e = rw table (accepted q clauses (length o) (length (table_in w).pages) (sym e)).room
+  opened-fits o e = rw search.table (accepted q clauses (length o) (length (table_in w).pages) (sym e)).room
 
   pub opened-writes : (o : List ℕ) → 0 ≡ sound_refusal q clauses (length o) (length (table_in w).pages) → length (opened_in s) ≤ length o
   opened-writes o e = rw opened-is (le_trans (opened-room w holds q clauses) (accepted q clauses (length o) (length (table_in w).pages) (sym e)).room)

@@ -1,17 +1,19 @@
 -- What lies beyond the window fails the page test and the leaf test; for the admitted set of overlap all else passes both.
 use Prim.Native.Nat.{ℕ, ◌+◌, ◌-◌, ◌<◌, ◌≤◌}
 use native.Mathlib.Omega.{arith}
-use mathlib.Core.Path.{◌≡◌, refl, sym, ap, ap₂, ◌∙◌}
+use mathlib.Core.Path.{◌≡◌, refl, sym, ap, ◌∙◌}
 use mathlib.Core.Logic.{◌⊎◌, inl, inr, ⊎_elim}
 use mathlib.Core.Bool.{Bool, true, false, ◌||◌, cond}
 use mathlib.Core.List.{List}
 use lib.Dec.{T, ltb}
 use borrow.Author.Tests.{ltb-true, ltb-false}
-use Rattle.relations.specs.Steps.{joined_of, near_by, inner_by, whole_by, overlap_by}
+use Rattle.relations.specs.declared.Reach.{Reach}
+use Rattle.relations.specs.declared.Reach.TheVariants.{Inner, Near, Anywhere}
+use Rattle.relations.specs.Steps.{joined_of, near_by, inner_by, reach_by, whole_by, overlap_by}
 use Rattle.relations.proofs.Tests.{and_left, and_right, or_left, or_right}
 use Rattle.relations.proofs.Sides.{is_code}
 use Rattle.relations.proofs.Near.{Shut, shut-y, shut-x, apart, outside, near-shut, inner-shut, leaf-less}
-use Rattle.relations.proofs.Whole.{Overlapping, overlapping, whole-leaf, whole-page}
+use Rattle.relations.proofs.Whole.{Overlapping, overlapping, whole-leaf, whole-page, reach-inner, inner-is, near-is}
 use Rattle.pages.specs.declared.Rect.{Rect}
 use Rattle.pages.specs.Sizes.{EDGE}
 use Rattle.pages.specs.Rectangles.{rect_of, valid}
@@ -64,17 +66,17 @@ drawn-out : {p1 p2 q1 q2 : ℕ} → (q2 - 1 < p1) ⊎ (p2 < q1 + 1) → (q2 ≤ 
 drawn-out (inl h) = inl (omega arith)
 drawn-out (inr h) = inr (omega arith)
 
-window-small : (q : Rect) → T (valid q) → (near inner : Bool) → Small (window_for q near inner)
+window-small : (q : Rect) → T (valid q) → (reach : Reach) → Small (window_for q reach)
 unfolding window_for
-window-small q v near inner = go near inner (small q v) (proper q v)
-  where
-    go : (a b : Bool) → Small q → Proper q → Small (cond b (drawn q) (cond a q (rect_of 0 0 EDGE EDGE)))
-    go a true s o = record { x-start = omega (arith, s.x-end, o.on-x); y-start = omega (arith, s.y-end, o.on-y); x-end = omega (arith, s.x-end); y-end = omega (arith, s.y-end) }
-    go true false s o = s
-    go false false s o = record { x-start = omega arith; y-start = omega arith; x-end = omega arith; y-end = omega arith }
+window-small q v Inner =
+    let s = small q v in
+    let o = proper q v in
+    record { x-start = omega (arith, s.x-end, o.on-x); y-start = omega (arith, s.y-end, o.on-y); x-end = omega (arith, s.x-end); y-end = omega (arith, s.y-end) }
+window-small q v Near = small q v
+window-small q v Anywhere = record { x-start = omega arith; y-start = omega arith; x-end = omega arith; y-end = omega arith }
 
-pub made-small : (q w : Rect) → T (valid q) → (near inner : Bool) → w ≡ window_for q near inner → Small w
-made-small q w v near inner e = rw e (window-small q v near inner)
+pub made-small : (q w : Rect) → T (valid q) → (reach : Reach) → w ≡ window_for q reach → Small w
+made-small q w v reach e = rw e (window-small q v reach)
 
 module _ (rows : List ℕ) (q : Rect) (v : T (valid q)) where
   o : Proper q
@@ -103,22 +105,22 @@ module _ (rows : List ℕ) (q : Rect) (v : T (valid q)) where
     past_all s (on-x (inl h)) = absurd (omega (arith, s.x-start))
     past_all s (on-x (inr h)) = absurd (omega arith)
 
-    past : Small p → (near inner : Bool) → near_by (joined_of rows) ≡ near → inner_by (joined_of rows) ≡ inner → Side (window_for q near inner) p → opens_by (joined_of rows) q p ≡ false
+    past : Small p → (reach : Reach) → reach_by (joined_of rows) ≡ reach → Side (window_for q reach) p → opens_by (joined_of rows) q p ≡ false
     unfolding window_for
-    past m near true n i s = past-drawn i s
-    past m true false n i s = past-reference n s
-    past m false false n i s = past_all m s
+    past m Inner r s = past-drawn (inner-is _ r) s
+    past m Near r s = past-reference (near-is _ r) s
+    past m Anywhere r s = past_all m s
 
   abbrev window : Rect
-  window = window_for q (near_by (joined_of rows)) (inner_by (joined_of rows))
+  window = window_for q (reach_by (joined_of rows))
 
   shut_out : (p : Rect) → Small p → beyond window p ≡ true → opens_by (joined_of rows) q p ≡ false
-  shut_out p m e = past p m _ _ refl refl (side window p e)
+  shut_out p m e = past p m _ refl (side window p e)
 
   module _ (w : overlap_by rows (joined_of rows) ≡ true) (p : Rect) (e : beyond window p ≡ false) where
     m : In (drawn q) p
     unfolding window_for overlap_by
-    m = within (drawn q) p (sym (ap (λ (i : Bool). beyond (cond i (drawn q) (cond (near_by (joined_of rows)) q (rect_of 0 0 EDGE EDGE))) p) (and_left (inner_by (joined_of rows)) (whole_by rows) w)) ∙ e)
+    m = within (drawn q) p (sym (ap (λ r. beyond (window_for q r) p) (reach-inner _ (and_left (inner_by (joined_of rows)) (whole_by rows) w))) ∙ e)
 
     i : Overlapping (code_y q p)
     i = overlapping p.y1 p.y2 q.y1 q.y2 (omega (arith, m.y-low, o.on-y)) (omega (arith, m.y-high))
@@ -153,10 +155,10 @@ module _ (rows : List ℕ) (q : Rect) (v : T (valid q)) where
       go false e false z = refl
 
   -- the window that a search makes
-  module _ (below : List ℕ) (near inner all : Bool) (w : Rect) (j : below ≡ joined_of rows) (n : near ≡ near_by below) (i : inner ≡ inner_by below) (o : all ≡ overlap_by rows below)
-      (e : w ≡ window_for q near inner) where
+  module _ (below : List ℕ) (reach : Reach) (all : Bool) (w : Rect) (j : below ≡ joined_of rows) (r : reach ≡ reach_by below) (o : all ≡ overlap_by rows below)
+      (e : w ≡ window_for q reach) where
     window-is : w ≡ window
-    window-is = e ∙ ap₂ (window_for q) (n ∙ ap near_by j) (i ∙ ap inner_by j)
+    window-is = e ∙ ap (window_for q) (r ∙ ap reach_by j)
 
     whole-is : all ≡ whole
     whole-is = o ∙ ap (overlap_by rows) j

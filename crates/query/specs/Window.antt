@@ -1,5 +1,7 @@
 -- The window of a search, beyond which nothing passes a test, and paired words, by which it is tested.
 use Rattle.std.specs.Prelude.{ℕ, ◌+◌, ◌-◌, ◌*◌, ◌/◌, ◌%◌, ◌≤◌, Bool, true, false, cond, ◌||◌, ◌≡◌, leb, ltb}
+use Rattle.relations.specs.declared.Reach.{Reach}
+use Rattle.relations.specs.declared.Reach.TheVariants.{Inner, Near, Anywhere}
 use Rattle.pages.specs.declared.Rect.{Rect}
 use Rattle.pages.specs.Sizes.{EDGE}
 use Rattle.pages.specs.Rectangles.{rect_of}
@@ -39,8 +41,10 @@ pub record Roomy (starts ends : ℕ) : Type 0 where
 
 -- drawn in by one unit where nothing is admitted that does not overlap the reference, the reference itself where nothing
 -- beyond it is, else all that pieces can cover
-unfoldable pub window_for : Rect → Bool → Bool → Rect
-window_for q near inner = cond inner (rect_of (q.x1 + 1) (q.y1 + 1) (q.x2 - 1) (q.y2 - 1)) (cond near q (rect_of 0 0 EDGE EDGE))
+unfoldable pub window_for : Rect → Reach → Rect
+window_for q Inner = rect_of (q.x1 + 1) (q.y1 + 1) (q.x2 - 1) (q.y2 - 1)
+window_for q Near = q
+window_for q Anywhere = rect_of 0 0 EDGE EDGE
 
 -- p lies beyond q on one of its sides: it starts past an end of q, or ends before a start of it
 unfoldable pub beyond : Rect → Rect → Bool

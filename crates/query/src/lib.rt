@@ -3,9 +3,9 @@
 
 ghost use Rattle.std.specs.Prelude.{◌≡◌, IfOk};
 ghost use Rattle.refusals.specs.Numbers.{refusal_of};
-ghost use Rattle.relations.specs.Query.{row_sets};
 ghost use Rattle.query.specs.Calls.{answer_of, opened_of, sound_refusal, query_sound, query_call, OpenedWords, front_of};
 ghost use Rattle.query.specs.Steps.{opened_listed};
+ghost use Rattle.query.specs.Search.{SearchFor};
 
 mod marking;
 mod searches;
@@ -13,9 +13,8 @@ mod walks;
 mod window;
 
 use marking::Marks;
-use pages::Rect;
+use pages::{Rect, ValidRect};
 use refusals::{ACCEPTED, Refusal};
-use relations::RowSets;
 use searches::Search;
 use soundness::SoundTable;
 use walks::Lister;
@@ -88,19 +87,23 @@ pub fn front(answer: &[u16], count: usize) -> &[u16]
     answer.get(..count).unwrap_or(&answer[..0])
 }
 
-// The row sets of a query, where the answer slice has `size` words and `needed` are asked.
-fn set_of(reference: Rect, clauses: &[u64], size: usize, needed: usize) -> Result<RowSets, Refusal>
+// The search of a query, where the answer slice has `size` words and `needed` are asked.
+fn search_of<'a>(
+    table: SoundTable<'a>,
+    reference: Rect,
+    clauses: &[u64],
+    size: usize,
+    needed: usize,
+) -> Result<Search<'a>, Refusal>
     ensures refusal { refusal_of result ≡ sound_refusal reference clauses.now size needed }
-    ensures rows { IfOk result (λ set. set.rows ≡ row_sets clauses.now) }
+    ensures search { IfOk result (SearchFor table.entry.words.now reference clauses.now) }
 {
-    if !reference.is_valid() {
-        return Err(Refusal::RectangleNotValid);
-    }
+    let reference = ValidRect::try_from(reference)?;
     let set = relations::admitted(clauses)?;
     if size < needed {
         return Err(Refusal::AnswerTooShort);
     }
-    Ok(set)
+    Ok(Search::new(table, reference, set))
 }
 
 /// A query on a table that is known to be sound.
@@ -112,8 +115,8 @@ pub fn query_sound(
 ) -> Result<Found, Refusal>
     ensures { (answer_of result, answer.new) ≡ query_sound table.entry.words.now reference clauses.now answer.old }
 {
-    let set = set_of(reference, clauses, answer.len(), table.piece_count())?;
-    let search = Search::new(table, reference, set);
+    let size = answer.len();
+    let search = search_of(table, reference, clauses, size, table.piece_count())?;
     let mut marks = Marks::new();
     let opened = search.run(&mut marks);
     let hits = marks.list(answer);
@@ -132,8 +135,8 @@ pub fn opened_sound(
 ) -> Result<u32, Refusal>
     ensures { (opened_of result, answer.new) ≡ opened_listed table.entry.words.now reference clauses.now answer.old }
 {
-    let set = set_of(reference, clauses, answer.len(), table.page_count())?;
-    let search = Search::new(table, reference, set);
+    let size = answer.len();
+    let search = search_of(table, reference, clauses, size, table.page_count())?;
     let count = search.run(&mut Lister { words: answer });
     Ok(count as u32)
 }

@@ -1,13 +1,12 @@
 // A search of a sound table, and what it asks of rectangles.
-ghost use Rattle.std.specs.Prelude.{◌≡◌, T};
+ghost use Rattle.std.specs.Prelude.{◌≡◌};
 ghost use Rattle.relations.specs.Steps.{joined_of};
-ghost use Rattle.pages.specs.Rectangles.{valid};
 ghost use Rattle.query.specs.Admission.{code_y, code_x};
 ghost use Rattle.query.specs.Steps.{Small, admits_by, opens_by};
 ghost use Rattle.query.specs.Window.{Decides};
 
 use crate::window::{Window, window_for};
-use pages::Rect;
+use pages::{Rect, ValidRect};
 use relations::{Code, PageTest, RowSets};
 use soundness::SoundTable;
 
@@ -15,28 +14,26 @@ use soundness::SoundTable;
 #[derive(Drop)]
 pub struct Search<'a> {
     pub table: SoundTable<'a>,
-    reference: Rect,
+    reference: ValidRect,
     set: RowSets,
     test: PageTest,
     pub window: Window,
     pub whole: bool,
-    ghost proper: { T (valid reference) },
     ghost joined: { test.below ≡ joined_of set.rows },
-    ghost leaves: { Decides window whole (admits_by set.rows reference) },
-    ghost pages: { Decides window whole (opens_by test.below reference) },
+    ghost leaves: { Decides window whole (admits_by set.rows reference.rect) },
+    ghost pages: { Decides window whole (opens_by test.below reference.rect) },
 }
 
 impl Search<'_> {
     ghost use Rattle.query.specs.Search.{admits_in, opens_in};
 
-    pub fn new(table: SoundTable<'_>, reference: Rect, set: RowSets) -> Search<'_>
-        requires { T (valid reference) }
+    pub fn new(table: SoundTable<'_>, reference: ValidRect, set: RowSets) -> Search<'_>
         ensures table { result.table.words.now ≡ table.entry.words.now }
         ensures reference { result.reference ≡ reference }
         ensures set { result.set ≡ set }
     {
         let test = PageTest::new(&set);
-        let window = window_for(reference, test.is_near(), test.is_inner());
+        let window = window_for(reference, test.reach());
         let whole = test.is_overlap(&set);
         Search {
             table,
@@ -50,10 +47,10 @@ impl Search<'_> {
 
     // The codes of a rectangle on y and on x.
     fn codes(&self, rect: Rect) -> (Code, Code)
-        ensures y { result.0.number ≡ code_y self.now.reference rect }
-        ensures x { result.1.number ≡ code_x self.now.reference rect }
+        ensures y { result.0.number ≡ code_y self.now.reference.rect rect }
+        ensures x { result.1.number ≡ code_x self.now.reference.rect rect }
     {
-        let q = self.reference;
+        let q = self.reference.rect;
         (
             relations::axis_code(rect.y1, rect.y2, q.y1, q.y2),
             relations::axis_code(rect.x1, rect.x2, q.x1, q.x2),

@@ -1,11 +1,11 @@
 // The window of a search: beyond it no rectangle passes a test.
-ghost use Rattle.std.specs.Prelude.{◌≡◌, T};
+ghost use Rattle.std.specs.Prelude.{◌≡◌};
 ghost use Rattle.pages.specs.declared.Rect.{Rect};
-ghost use Rattle.pages.specs.Rectangles.{valid};
 ghost use Rattle.query.specs.Steps.{Small};
 ghost use Rattle.query.specs.Window.{paired_of, over, window_in, Roomy, window_for, beyond};
 
-use pages::Rect;
+use pages::{Rect, ValidRect};
+use relations::Reach;
 use std::marker::Model;
 
 // A paired word has an x in its lower half and a y in its upper half.
@@ -71,25 +71,23 @@ impl Window {
 /// What is searched: the reference drawn in by one unit where nothing is admitted that does not overlap it, the reference itself
 /// where nothing beyond it is, else all that pieces can cover.
 #[tactic(auto, using(crate::proofs::Tests::proper), unfolding(crate::specs::Window::window_for))]
-pub fn window_for(q: Rect, near: bool, inner: bool) -> Rect
-    requires { T (valid q) }
-    ensures { result ≡ window_for q near inner }
+pub fn window_for(reference: ValidRect, reach: Reach) -> Rect
+    ensures { result ≡ window_for reference.rect reach }
 {
-    if inner {
-        return Rect {
+    let q = reference.rect;
+    match reach {
+        Reach::Inner => Rect {
             x1: q.x1 + 1,
             y1: q.y1 + 1,
             x2: q.x2 - 1,
             y2: q.y2 - 1,
-        };
-    }
-    if near {
-        return q;
-    }
-    Rect {
-        x1: 0,
-        y1: 0,
-        x2: pages::EDGE,
-        y2: pages::EDGE,
+        },
+        Reach::Near => q,
+        Reach::Anywhere => Rect {
+            x1: 0,
+            y1: 0,
+            x2: pages::EDGE,
+            y2: pages::EDGE,
+        },
     }
 }

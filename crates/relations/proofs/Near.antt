@@ -126,7 +126,10 @@ module _ (rows : List ℕ) where
   unfolding near_by
   near-shut n after = record { is = record { low = omega arith; high = omega arith }; closed = not-true _ (and_left _ _ n) }
   near-shut n touching = record { is = record { low = omega arith; high = omega arith }; closed = not-true _ (and_left _ _ (and_right (not (open_at (joined_of rows) 1)) _ n)) }
-  near-shut n before = record { is = record { low = omega arith; high = omega arith }; closed = not-true _ (and_right (not (open_at (joined_of rows) 2)) _ (and_right (not (open_at (joined_of rows) 1)) _ n)) }
+  near-shut n before = record {
+    is = record { low = omega arith; high = omega arith };
+    closed = not-true _ (and_right (not (open_at (joined_of rows) 2)) _ (and_right (not (open_at (joined_of rows) 1)) _ n));
+  }
 
   -- and what does not overlap it, where `inner_by` holds
   pub inner-shut : inner_by (joined_of rows) ≡ true → {c : ℕ} → Outside c → Shut rows c

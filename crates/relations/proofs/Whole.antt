@@ -1,5 +1,5 @@
 -- Where all 81 configurations with both codes in 3 to 11 are admitted, whatever has such codes passes both tests.
-use mathlib.Core.Bool.{Bool, true, false, ◌&&◌, false≢true}
+use mathlib.Core.Bool.{Bool, true, false, ◌&&◌, cond, false≢true}
 use mathlib.Core.List.{List}
 use mathlib.Core.Path.{◌≡◌, refl, sym, ap, ap₂, subst, ◌∙◌}
 use lib.Seq.{take-suc}
@@ -12,9 +12,12 @@ use Rattle.std.specs.List.{fold}
 use lib.Bits.{bit_and}
 use lib.ListN.{length, get_or, take, drop}
 use borrow.Author.Tests.{eqb-true}
+use denote.Enum.Bare.{sameb}
+use Rattle.relations.specs.contracts.Reach.{the_type}
+use Rattle.relations.specs.declared.Reach.TheVariants.{Inner, Near, Anywhere}
 use Rattle.relations.specs.Sets.{bit, some_below}
 use Rattle.relations.specs.Axis.{IsCode, code}
-use Rattle.relations.specs.Steps.{OVERLAPPING, joined_of, page_test, shared, whole_by, rows_have}
+use Rattle.relations.specs.Steps.{OVERLAPPING, joined_of, page_test, near_by, inner_by, reach_by, shared, whole_by, rows_have}
 use Rattle.relations.proofs.Tests.{all_below, all-at, and_left, and_right}
 use Rattle.relations.proofs.Bits.{bit-and}
 use Rattle.relations.proofs.Sides.{side-lt, code-over}
@@ -76,3 +79,29 @@ module _ (rows : List ℕ) where
       go : (b : Bool) → page_test (joined_of rows) i j ≡ b → b ≡ true
       go true e = refl
       go false e = absurd (false≢true (sym (leaf-less rows i j (is oi) (is oj) e) ∙ whole-leaf w i j oi oj))
+
+-- the reach is the inner one exactly where `inner_by` holds
+pub inner-reach : (joined : List ℕ) → sameb the_type (reach_by joined) Inner ≡ inner_by joined
+unfolding reach_by
+inner-reach joined = go (inner_by joined) (near_by joined)
+  where
+    go : (inner near : Bool) → sameb the_type (cond inner Inner (cond near Near Anywhere)) Inner ≡ inner
+    go true near = refl
+    go false true = refl
+    go false false = refl
+
+pub reach-inner : (joined : List ℕ) → inner_by joined ≡ true → reach_by joined ≡ Inner
+unfolding reach_by
+reach-inner joined e = rw e
+
+pub inner-is : (joined : List ℕ) → reach_by joined ≡ Inner → inner_by joined ≡ true
+inner-is joined e = sym (inner-reach joined) ∙ ap (λ r. sameb the_type r Inner) e
+
+pub near-is : (joined : List ℕ) → reach_by joined ≡ Near → near_by joined ≡ true
+unfolding reach_by
+near-is joined e = go (inner_by joined) (near_by joined) e
+  where
+    go : (inner near : Bool) → cond inner Inner (cond near Near Anywhere) ≡ Near → near ≡ true
+    go inner true r = refl
+    go true false r = absurd (false≢true (ap (λ x. sameb the_type x Near) r))
+    go false false r = absurd (false≢true (ap (λ x. sameb the_type x Near) r))

@@ -1,6 +1,8 @@
 -- What the inner functions are held to: the side of a number, rows of one relation and of one clause, and the row sets joined for a page's code.
 use Rattle.std.specs.Prelude.{Bool, not, cond, ◌&&◌, ◌||◌, List, [], ◌∷◌, ℕ, zero, suc, ◌+◌, ◌-◌, leb, ltb, eqb, get_or}
 use Rattle.std.specs.Int.Bits.{bit_and, bit_or}
+use Rattle.relations.specs.declared.Reach.{Reach}
+use Rattle.relations.specs.declared.Reach.TheVariants.{Inner, Near, Anywhere}
 use Rattle.relations.specs.Sets.{digit, bit, packed, some_below, listed}
 use Rattle.relations.specs.Axis.{CODES}
 use Rattle.relations.specs.Relation.{in_relation}
@@ -65,6 +67,11 @@ near_by joined = not (open_at joined 1) && (not (open_at joined 2) && not (open_
 unfoldable pub inner_by : List ℕ → Bool
 unfolding near_by
 inner_by joined = near_by joined && not (open_at joined 12)
+
+-- where a rectangle lies that can be admitted
+unfoldable pub reach_by : List ℕ → Reach
+unfolding near_by inner_by
+reach_by joined = cond (inner_by joined) Inner (cond (near_by joined) Near Anywhere)
 
 -- the codes 3 to 11 as a number; what the rows of codes 3 to n + 3 have in common
 abbrev pub OVERLAPPING : ℕ

@@ -7,7 +7,8 @@ ghost use Rattle.relations.specs.Sets.{listed, ones_from};
 ghost use Rattle.relations.specs.Axis.{CODES, code, IsCode};
 ghost use Rattle.relations.specs.Relation.{sets_of};
 ghost use Rattle.relations.specs.Query.{count_of, some_bad, refusal_of as clauses_refusal, admitted_of, admitted_set_of};
-ghost use Rattle.relations.specs.Steps.{side_of, named_row, with_relation, cut_to, union_of, joined_of, node_masks, page_test, open_at, near_by, inner_by, overlap_by, rows_have};
+ghost use Rattle.relations.specs.Steps.{side_of, named_row, with_relation, cut_to};
+ghost use Rattle.relations.specs.Steps.{union_of, joined_of, node_masks, page_test, open_at, near_by, reach_by, overlap_by, rows_have};
 
 mod set_bits;
 
@@ -235,6 +236,16 @@ impl From<Result<RowSets, Refusal>> for AdmittedSet {
     }
 }
 
+/// Where a rectangle lies to the reference that can be admitted.
+#[derive(Clone, Copy, Debug, PartialEq, Eq)]
+pub enum Reach {
+    /// Both codes are in 3 to 11: more than edges meet.
+    Inner,
+    /// No code is 1, 2 or 13: the rectangle touches the reference or overlaps it.
+    Near,
+    Anywhere,
+}
+
 /// What can stand inside a page, made once for each query: the page test then looks at one row and one mask.
 #[derive(Drop)]
 pub struct PageTest {
@@ -293,10 +304,9 @@ impl PageTest {
         self.may_hold(c, AROUND) || self.may_hold(AROUND, c)
     }
 
-    /// Whether nothing beyond the reference can be admitted. Most queries ask for contact, and a walk then passes by what lies
-    /// beyond without its codes.
+    // Whether nothing beyond the reference can be admitted.
     #[tactic(auto, unfolding(crate::specs::Steps::near_by))]
-    pub fn is_near(&self) -> bool
+    fn is_near(&self) -> bool
         ensures { result ≡ near_by self.now.below }
     {
         !self.is_open(Code { number: 1 })
@@ -304,12 +314,18 @@ impl PageTest {
             && !self.is_open(Code { number: CODES })
     }
 
-    /// Whether nothing is admitted but with both codes in 3 to 11: where more than edges meet.
-    #[tactic(auto, unfolding(crate::specs::Steps::inner_by))]
-    pub fn is_inner(&self) -> bool
-        ensures { result ≡ inner_by self.now.below }
+    /// Where what can be admitted lies. Most queries ask for contact, and a walk then passes by what lies beyond without its codes.
+    #[tactic(auto, unfolding(crate::specs::Steps::reach_by, crate::specs::Steps::inner_by))]
+    pub fn reach(&self) -> Reach
+        ensures { result ≡ reach_by self.now.below }
     {
-        self.is_near() && !self.is_open(Code { number: 12 })
+        if !self.is_near() {
+            return Reach::Anywhere;
+        }
+        if self.is_open(Code { number: 12 }) {
+            return Reach::Near;
+        }
+        Reach::Inner
     }
 
     /// Whether the admitted set is that of overlap, the 81 configurations with both codes in 3 to 11: a walk then needs no codes.
@@ -317,7 +333,7 @@ impl PageTest {
     pub fn is_overlap(&self, set: &RowSets) -> bool
         ensures { result ≡ overlap_by set.now.rows self.now.below }
     {
-        if !self.is_inner() {
+        if self.reach() != Reach::Inner {
             return false;
         }
         let shared = set.rows[3..=10]

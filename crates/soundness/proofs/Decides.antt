@@ -15,8 +15,9 @@ use Rattle.pages.proofs.Below.{below-same}
 use Rattle.pages.proofs.Whole.{sound-in}
 use Rattle.std.specs.Prelude.{Option, is_some}
 use Rattle.pages.specs.declared.Rect.{Rect}
-use Rattle.soundness.specs.Steps.{total_of, visits, stores, Visited, Complete, root_fewest, Rooted}
+use Rattle.soundness.specs.Steps.{mark_of, total_of, visits, stores, Visited, Complete, root_fewest, Rooted}
 use Rattle.soundness.proofs.Words.{pages-word, root-word, pieces-word, level-word}
+use Rattle.soundness.proofs.Marks.{one-most}
 use Rattle.soundness.proofs.Counts.{all_one}
 use Rattle.soundness.proofs.Trees.{tree-sound}
 use Rattle.soundness.proofs.Passes.{rest-zero, root-tree, room-pages, room-pieces, pages-total, pieces-total}
@@ -29,8 +30,8 @@ front-part w n a l k =
     let e : drop a w ≡ drop a x ++ drop n w = ap (drop a) (sym (take-append-drop n w)) ∙ drop-append-le a x (drop n w) (omega arith) in
     ap (take (n - a)) e ∙ take_at (drop a x) (drop n w) (n - a) (omega (arith, length-drop a x))
 
-module _ {w : List ℕ} {k root h : ℕ} (R : Rooted w k root h) {s₀ n₀ s₁ n₁ : List ℕ} {v : Option Rect}
-    (sz : (q : ℕ) → get_or s₀ q 0 ≡ 0) (nz : (c : ℕ) → get_or n₀ c 0 ≡ 0) {m : ℕ} (me : m ≡ root_fewest h) (y : Visited w h m root s₀ n₀ v s₁ n₁) where
+module _ {w : List ℕ} {k root h : ℕ} (R : Rooted w k root h) {s₀ n₀ s₁ n₁ : List Bool} {v : Option Rect}
+    (sz : (q : ℕ) → mark_of s₀ q ≡ 0) (nz : (c : ℕ) → mark_of n₀ c ≡ 0) {m : ℕ} (me : m ≡ root_fewest h) (y : Visited w h m root s₀ n₀ v s₁ n₁) where
   x : Visited w h (root_fewest h) root s₀ n₀ v s₁ n₁
   x = subst (λ a. Visited w h a root s₀ n₀ v s₁ n₁) me y
 
@@ -48,21 +49,18 @@ module _ {w : List ℕ} {k root h : ℕ} (R : Rooted w k root h) {s₀ n₀ s₁
       pieces-total w k root h R s n₀ nz n₁ (x.yes good).2 ∙ ap (λ a. get_or a 2 0) (sym same),
     )))
 
-    mark-few : (q : ℕ) → q < k → get_or s₁ q 0 ≤ 1
-    mark-few q l = omega (arith, sz q, (x.yes good).1 q (omega (arith, R.most)))
-
-    visits-mark : (q : ℕ) → q < length (table_in w).pages → get_or s₁ q 0 ≡ 1 → visits w h root q ≡ 1
+    visits-mark : (q : ℕ) → q < length (table_in w).pages → mark_of s₁ q ≡ 1 → visits w h root q ≡ 1
     visits-mark q l e = omega (arith, sz q, e, (x.yes good).1 q (omega (arith, R.count, R.most)))
 
     once : total_of s₁ k ≡ k → (q : ℕ) → q < length (table_in w).pages → visits w h root q ≡ 1
     unfolding total_of
-    once t q l = visits-mark q l (all_one k (λ a. get_or s₁ a 0) mark-few t q (subst (λ m. q < m) (sym R.count) l))
+    once t q l = visits-mark q l (all_one k (mark_of s₁) (λ a _. one-most (get_or s₁ a false)) t q (subst (λ m. q < m) (sym R.count) l))
 
-    stores-mark : (c : ℕ) → c < PIECES → get_or n₁ c 0 ≡ stores w h root c
+    stores-mark : (c : ℕ) → c < PIECES → mark_of n₁ c ≡ stores w h root c
     stores-mark c l = omega (arith, nz c, (x.yes good).2 c l)
 
     stores-few : (c : ℕ) → c < PIECES → stores w h root c ≤ 1
-    stores-few c l = omega (arith, nz c, (x.yes good).2 c l)
+    stores-few c l = omega (arith, nz c, (x.yes good).2 c l, one-most (get_or n₁ c false))
 
     pub rest_decides : Complete w' k' s₁ n₁ → {b : Bool}
         → b ≡ zeros (take (TABLE_WORDS - (TABLE_HEAD + PAGE_WORDS * k)) (drop (TABLE_HEAD + PAGE_WORDS * k) w)) → b ≡ sound w
@@ -74,7 +72,7 @@ module _ {w : List ℕ} {k root h : ℕ} (R : Rooted w k root h) {s₀ n₀ s₁
 
         go : (b : Bool) → b ≡ zeros (drop (TABLE_HEAD + PAGE_WORDS * k) (take TABLE_WORDS w)) → b ≡ sound w
         go true z = sym (T_true (sound w) (tree-sound w k root h R (x.yes good).0 (once (subst (λ a. total_of s₁ a ≡ a) k-same t.0)) stores-few
-            (pieces-word w R.long ∙ (ap (λ a. get_or a 2 0) (sym same) ∙ (sym t.1 ∙ below-same PIECES (λ c. get_or n₁ c 0) (stores w h root) stores-mark))) (true-T _ (sym z))))
+            (pieces-word w R.long ∙ (ap (λ a. get_or a 2 0) (sym same) ∙ (sym t.1 ∙ below-same PIECES (mark_of n₁) (stores w h root) stores-mark))) (true-T _ (sym z))))
         go false z = sym (T_false (sound w) (λ s. false-T _ (sym z) (subst (λ n. T (zeros (drop (TABLE_HEAD + PAGE_WORDS * n) (take TABLE_WORDS w)))) (sym R.count) (rest-zero w R.long s))))
 
 -- the tests before the walk

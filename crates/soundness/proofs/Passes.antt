@@ -3,6 +3,7 @@ use Prim.Native.Nat.{ℕ, zero, suc, ◌+◌, ◌*◌, ◌≤◌, ◌<◌}
 use native.Mathlib.Omega.{arith}
 use native.Mathlib.Decide.{dec_lt}
 use mathlib.Core.Path.{◌≡◌, sym, ap, subst, ◌∙◌}
+use mathlib.Core.Bool.{Bool}
 use mathlib.Core.List.{List}
 use lib.ListN.{length, get_or, take, drop}
 use lib.Dec.{T, eqb}
@@ -22,7 +23,7 @@ use Rattle.pages.proofs.Counting.{stored-sum, highest}
 use Rattle.pages.proofs.Entries.{Fits, leaf-pieces, fits-above}
 use Rattle.pages.proofs.Walk.{under-root}
 use Rattle.pages.proofs.Visit.{seen-root}
-use Rattle.soundness.specs.Steps.{Adds, Room, total_of, visits, stores, Piece, Head, Tree, root_fewest, Rooted}
+use Rattle.soundness.specs.Steps.{mark_of, Adds, Room, total_of, visits, stores, Piece, Head, Tree, root_fewest, Rooted}
 use Rattle.soundness.proofs.Words.{first_word, pages-word, pieces-word, tail-words}
 use Rattle.soundness.proofs.Walks.{Child}
 
@@ -95,28 +96,28 @@ module _ (w : List ℕ) (k root h : ℕ) (R : Rooted w k root h) (s : T (sound w
   stores-are : (c : ℕ) → stores w h root c ≡ stored (table_in w) c
   stores-are c = from-root (λ l p. under (is c) (table_in w).pages l p ≡ stored (table_in w) c) (under-root (table_in w) (F w R.long s) (is c))
 
-  module _ (m₀ : List ℕ) (none : (q : ℕ) → get_or m₀ q 0 ≡ 0) where
+  module _ (m₀ : List Bool) (none : (q : ℕ) → mark_of m₀ q ≡ 0) where
     pub room-pages : Room PAGES m₀ (visits w h root)
     room-pages q l = omega (arith, none q, visits-few q)
 
     pub room-pieces : Room PIECES m₀ (stores w h root)
     room-pieces c l = omega (arith, none c, stores-are c, (F w R.long s).distinct c l)
 
-    one-mark : (m₁ : List ℕ) (q : ℕ) → Adds PAGES m₀ m₁ (visits w h root) → q < k → get_or m₁ q 0 ≡ 1
+    one-mark : (m₁ : List Bool) (q : ℕ) → Adds PAGES m₀ m₁ (visits w h root) → q < k → mark_of m₁ q ≡ 1
     one-mark m₁ q a l = omega (arith, none q, visits-one q l, a q (omega (arith, R.most)))
 
     -- each page is visited, and the pieces are counted
-    pub pages-total : (m₁ : List ℕ) → Adds PAGES m₀ m₁ (visits w h root) → total_of m₁ k ≡ k
+    pub pages-total : (m₁ : List Bool) → Adds PAGES m₀ m₁ (visits w h root) → total_of m₁ k ≡ k
     unfolding total_of
-    pages-total m₁ a = below-same k (λ q. get_or m₁ q 0) (λ q. 1) (λ q l. one-mark m₁ q a l) ∙ (below-const k 1 ∙ times-one k)
+    pages-total m₁ a = below-same k (mark_of m₁) (λ q. 1) (λ q l. one-mark m₁ q a l) ∙ (below-const k 1 ∙ times-one k)
       where
         times-one : (n : ℕ) → n * 1 ≡ n
         times-one n = omega arith
 
-    number-mark : (m₁ : List ℕ) (c : ℕ) → Adds PIECES m₀ m₁ (stores w h root) → c < PIECES → get_or m₁ c 0 ≡ stored (table_in w) c
+    number-mark : (m₁ : List Bool) (c : ℕ) → Adds PIECES m₀ m₁ (stores w h root) → c < PIECES → mark_of m₁ c ≡ stored (table_in w) c
     number-mark m₁ c a l = omega (arith, none c, stores-are c, a c l)
 
-    pub pieces-total : (m₁ : List ℕ) → Adds PIECES m₀ m₁ (stores w h root) → total_of m₁ PIECES ≡ get_or w 2 0
+    pub pieces-total : (m₁ : List Bool) → Adds PIECES m₀ m₁ (stores w h root) → total_of m₁ PIECES ≡ get_or w 2 0
     unfolding total_of
-    pieces-total m₁ a = below-same PIECES (λ c. get_or m₁ c 0) (stored (table_in w)) (λ c l. number-mark m₁ c a l)
+    pieces-total m₁ a = below-same PIECES (mark_of m₁) (stored (table_in w)) (λ c l. number-mark m₁ c a l)
         ∙ (stored-sum (table_in w) PIECES (F w R.long s).numbers ∙ (sym (F w R.long s).counted ∙ pieces-word w R.long))

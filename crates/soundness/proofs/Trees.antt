@@ -157,7 +157,8 @@ module _ (w : List ℕ) (k root h : ℕ) (R : Rooted w k root h) (t : Tree w h (
     levels = levels;
     lower = lower;
     once = named-once (table_in w) top lower inside
-        (λ q ql. subst (λ d. seen (λ x. one (eqb x q)) (table_in w).pages (page (table_in w) d).level d ≡ 1) R.is (subst (λ l. seen (λ x. one (eqb x q)) (table_in w).pages l root ≡ 1) R.at (once q ql)));
+        (λ q ql. subst (λ d. seen (λ x. one (eqb x q)) (table_in w).pages (page (table_in w) d).level d ≡ 1) R.is
+        (subst (λ l. seen (λ x. one (eqb x q)) (table_in w).pages l root ≡ 1) R.at (once q ql)));
     inside = inside;
     enough = λ q ql. (good-page q ql).enough;
     eight = λ q ql. (head q ql).eight;
@@ -169,7 +170,8 @@ module _ (w : List ℕ) (k root h : ℕ) (R : Rooted w k root h) (t : Tree w h (
   }
 
   -- and so the words are sound, where the tails and the rest are zero
-  pub tree-sound : ((c : ℕ) → c < PIECES → stores w h root c ≤ 1) → (table_in w).count ≡ sum_below PIECES (stores w h root) → T (zeros (drop (TABLE_HEAD + PAGE_WORDS * k) (take TABLE_WORDS w))) → T (sound w)
+  pub tree-sound : ((c : ℕ) → c < PIECES → stores w h root c ≤ 1) → (table_in w).count ≡ sum_below PIECES (stores w h root)
+      → T (zeros (drop (TABLE_HEAD + PAGE_WORDS * k) (take TABLE_WORDS w))) → T (sound w)
   unfolding sound sound_blank
   tree-sound one_each count rest =
       and (sound_table (table_in w)) (all_of (sound_blank (take TABLE_WORDS w))) (sound-of (table_in w) (tree-facts one_each count))

@@ -34,36 +34,36 @@ tree-head w zero m p t = t.0
 tree-head w (suc l) m p t = t.0
 
 -- the walk over the entries of a page above the leaves, one before the others: the marks before and after it
-pub record Below (w : List ℕ) (l : ℕ) (es : List Entry) (h g : List ℕ) (r : Bool) (h' g' : List ℕ) : Type 0 where
+pub record Below (w : List ℕ) (l : ℕ) (es : List Entry) (h g : List Bool) (r : Bool) (h' g' : List Bool) : Type 0 where
   pub yes : r ≡ true → Every (Child w l) es × Adds PAGES h h' (λ q. sum (λ e. visits w l e.r q) es) × Adds PIECES g g' (λ c. sum (λ e. stores w l e.r c) es)
   pub no : r ≡ false → Every (Child w l) es → Room PAGES h (λ q. sum (λ e. visits w l e.r q) es) → Room PIECES g (λ c. sum (λ e. stores w l e.r c) es) → ⊥
 
-pub below_none : {w : List ℕ} {l : ℕ} {xs : List Entry} {h g : List ℕ} → xs ≡ [] → Below w l xs h g true h g
+pub below_none : {w : List ℕ} {l : ℕ} {xs : List Entry} {h g : List Bool} → xs ≡ [] → Below w l xs h g true h g
 below_none {h = h} {g = g} e = rw e (record { yes = λ _. (tt, adds_none PAGES h, adds_none PIECES g); no = λ f _ _ _. not-both true refl f })
 
 -- the first entry: its child is not good, has other bounds than the entry, or is good; u is the table as the walk has it
 module _ {w u : List ℕ} {l : ℕ} {e : Entry} {es xs : List Entry} (same : u ≡ w) (is_first : xs ≡ e ∷ es) where
-  here : (h g : List ℕ) (r : Bool) (h' g' : List ℕ) → Below w l (e ∷ es) h g r h' g' → Below w l xs h g r h' g'
+  here : (h g : List Bool) (r : Bool) (h' g' : List Bool) → Below w l (e ∷ es) h g r h' g' → Below w l xs h g r h' g'
   here h g r h' g' = subst (λ k. Below w l k h g r h' g') (sym is_first)
 
-  there : (h g : List ℕ) (v : Option Rect) (h' g' : List ℕ) → Visited u l FEWEST e.r h g v h' g' → Visited w l FEWEST e.r h g v h' g'
+  there : (h g : List Bool) (v : Option Rect) (h' g' : List Bool) → Visited u l FEWEST e.r h g v h' g' → Visited w l FEWEST e.r h g v h' g'
   there h g v h' g' = subst (λ t. Visited t l FEWEST e.r h g v h' g') same
 
-  pub below_stop : {h g h₁ g₁ : List ℕ} → Visited u l FEWEST e.r h g None h₁ g₁ → Below w l xs h g false h₁ g₁
+  pub below_stop : {h g h₁ g₁ : List Bool} → Visited u l FEWEST e.r h g None h₁ g₁ → Below w l xs h g false h₁ g₁
   below_stop {h} {g} {h₁} {g₁} y =
       let x = there h g None h₁ g₁ y in here h g false h₁ g₁ (record {
         yes = λ t. absurd (not-both false t refl);
         no = λ _ cs rh rg. x.no refl cs.0.0 (λ q k. omega (arith, rh q k)) (λ c k. omega (arith, rg c k));
       })
 
-  pub below_other : {b : Rect} {h g h₁ g₁ : List ℕ} → Visited u l FEWEST e.r h g (Some b) h₁ g₁ → (e.rect ≡ b → ⊥) → Below w l xs h g false h₁ g₁
+  pub below_other : {b : Rect} {h g h₁ g₁ : List Bool} → Visited u l FEWEST e.r h g (Some b) h₁ g₁ → (e.rect ≡ b → ⊥) → Below w l xs h g false h₁ g₁
   below_other {b} {h} {g} {h₁} {g₁} y n =
       let x = there h g (Some b) h₁ g₁ y in here h g false h₁ g₁ (record {
         yes = λ t. absurd (not-both false t refl);
         no = λ _ cs _ _. n (cs.0.1 ∙ sym x.exact);
       })
 
-  pub below_go : {b : Rect} {h g h₁ g₁ h' g' : List ℕ} {r : Bool} → Visited u l FEWEST e.r h g (Some b) h₁ g₁ → e.rect ≡ b → Below w l es h₁ g₁ r h' g' → Below w l xs h g r h' g'
+  pub below_go : {b : Rect} {h g h₁ g₁ h' g' : List Bool} {r : Bool} → Visited u l FEWEST e.r h g (Some b) h₁ g₁ → e.rect ≡ b → Below w l es h₁ g₁ r h' g' → Below w l xs h g r h' g'
   below_go {b} {h} {g} {h₁} {g₁} {h'} {g'} {r} y s t =
       let x = there h g (Some b) h₁ g₁ y in
       let a = x.yes refl in here h g r h' g' (record {
@@ -94,7 +94,7 @@ unfolding seen
 self w zero p q = omega arith
 self w (suc l) p q = omega arith
 
-pub walk-not : {w : List ℕ} {l m p : ℕ} {h h₁ g g₁ : List ℕ} → g₁ ≡ g → Tested PAGES (Head w l m p) (λ q. one (eqb p q)) h false h₁ → Visited w l m p h g None h₁ g₁
+pub walk-not : {w : List ℕ} {l m p : ℕ} {h h₁ g g₁ : List Bool} → g₁ ≡ g → Tested PAGES (Head w l m p) (λ q. one (eqb p q)) h false h₁ → Visited w l m p h g None h₁ g₁
 walk-not {w} {l} {m} {p} e x = record {
   yes = λ z. absurd (not-both false z refl);
   no = λ _ t rh _. x.no refl (tree-head w l m p t) (λ q k. omega (arith, rh q k, self w l p q));
@@ -102,8 +102,8 @@ walk-not {w} {l} {m} {p} e x = record {
 }
 
 -- the walk below page p, whose own tests are passed, by the entries that its words have
-module _ (w : List ℕ) (m p : ℕ) (h h₁ g : List ℕ) (es : List Entry) (ent : (page (table_in w) p).entries ≡ es) where
-  leaf-at : (v : Option Rect) (g' : List ℕ) → Tested PAGES (Head w 0 m p) (λ q. one (eqb p q)) h true h₁ → LeafTested es g v g' → Visited w 0 m p h g v h₁ g'
+module _ (w : List ℕ) (m p : ℕ) (h h₁ g : List Bool) (es : List Entry) (ent : (page (table_in w) p).entries ≡ es) where
+  leaf-at : (v : Option Rect) (g' : List Bool) → Tested PAGES (Head w 0 m p) (λ q. one (eqb p q)) h true h₁ → LeafTested es g v g' → Visited w 0 m p h g v h₁ g'
   unfolding Tree seen under
   leaf-at v g' x y =
       let f = subst (λ k. LeafTested k g v g') (sym ent) y in record {
@@ -112,12 +112,16 @@ module _ (w : List ℕ) (m p : ℕ) (h h₁ g : List ℕ) (es : List Entry) (ent
         exact = f.exact;
       }
 
-  module _ (l : ℕ) (h' g' : List ℕ) (x : Tested PAGES (Head w (suc l) m p) (λ q. one (eqb p q)) h true h₁) where
+  module _ (l : ℕ) (h' g' : List Bool) (x : Tested PAGES (Head w (suc l) m p) (λ q. one (eqb p q)) h true h₁) where
+    -- how often page q is visited below
+    abbrev below : ℕ → ℕ
+    below q = sum (λ e. visits w l e.r q) (page (table_in w) p).entries
+
     good-at : (b : Rect) → b ≡ bounds es → Below w l es h₁ g true h' g' → Visited w (suc l) m p h g (Some b) h' g'
     unfolding Tree seen under
     good-at b z y =
         let k = (subst (λ k. Below w l k h₁ g true h' g') (sym ent) y).yes refl in record {
-          yes = λ _. (((x.yes refl).0, k.0), adds-more PAGES h h₁ h' (λ q. one (eqb p q)) (λ q. sum (λ e. visits w l e.r q) (page (table_in w) p).entries) (visits w (suc l) p) (x.yes refl).1 k.1 (λ q. refl), k.2);
+          yes = λ _. (((x.yes refl).0, k.0), adds-more PAGES h h₁ h' (λ q. one (eqb p q)) below (visits w (suc l) p) (x.yes refl).1 k.1 (λ q. refl), k.2);
           no = λ f _ _ _. not-both true refl f;
           exact = z ∙ ap bounds (sym ent);
         }
@@ -127,7 +131,7 @@ module _ (w : List ℕ) (m p : ℕ) (h h₁ g : List ℕ) (es : List Entry) (ent
     bad-at y =
         let k = subst (λ k. Below w l k h₁ g false h' g') (sym ent) y in record {
           yes = λ t. absurd (not-both false t refl);
-          no = λ _ t rh rg. k.no refl t.1 (room-left PAGES h h₁ (λ q. one (eqb p q)) (λ q. sum (λ e. visits w l e.r q) (page (table_in w) p).entries) (visits w (suc l) p) (x.yes refl).1 (λ q. omega arith) rh) rg;
+          no = λ _ t rh rg. k.no refl t.1 (room-left PAGES h h₁ (λ q. one (eqb p q)) below (visits w (suc l) p) (x.yes refl).1 (λ q. omega arith) rh) rg;
           exact = tt;
         }
 
@@ -137,7 +141,7 @@ up zero f = absurd (f refl)
 up (suc l) f = rw sub-one
 
 -- the same by the words of the page; the marks and the table (u) are those after the page's own tests
-module _ {w u : List ℕ} {l m p k : ℕ} {h h₁ g g₁ pg : List ℕ} (long : TABLE_WORDS ≤ length w) (count : k ≡ length (table_in w).pages) (most : k ≤ PAGES)
+module _ {w u : List ℕ} {l m p k : ℕ} {h h₁ g g₁ : List Bool} {pg : List ℕ} (long : TABLE_WORDS ≤ length w) (count : k ≡ length (table_in w).pages) (most : k ≤ PAGES)
     (x : Tested PAGES (Head w l m p) (λ q. one (eqb p q)) h true h₁) (same : (u ≡ w) × (g₁ ≡ g)) (words : pg ≡ page_words u p) where
   is : pg ≡ page_words w p
   is = words ∙ ap (λ t. page_words t p) same.0
@@ -148,22 +152,23 @@ module _ {w u : List ℕ} {l m p k : ℕ} {h h₁ g g₁ pg : List ℕ} (long : 
   pub walk_fits : get_or pg 1 0 ≤ FANOUT
   walk_fits = size_fits w l m p pg long few (x.yes refl).0 is
 
-  from : (v : Option Rect) (h' g' : List ℕ) → Visited w l m p h g₁ v h' g' → Visited w l m p h g v h' g'
+  from : (v : Option Rect) (h' g' : List Bool) → Visited w l m p h g₁ v h' g' → Visited w l m p h g v h' g'
   from v h' g' = subst (λ y. Visited w l m p h y v h' g') same.1
 
   module _ {es : List Entry} (items : es ≡ entries_in pg (get_or pg 1 0)) where
     ent : (page (table_in w) p).entries ≡ es
     ent = entries-are w l m p pg long few (x.yes refl).0 is ∙ sym items
 
-    pub walk-leaf : l ≡ 0 → {v : Option Rect} {g' : List ℕ} → LeafTested es g₁ v g' → Visited w l m p h g v h₁ g'
-    walk-leaf z {v} {g'} y = from v h₁ g' (subst (λ d. Tested PAGES (Head w d m p) (λ q. one (eqb p q)) h true h₁ → Visited w d m p h g₁ v h₁ g') (sym z) (λ t. leaf-at w m p h h₁ g₁ es ent v g' t y) x)
+    pub walk-leaf : l ≡ 0 → {v : Option Rect} {g' : List Bool} → LeafTested es g₁ v g' → Visited w l m p h g v h₁ g'
+    walk-leaf z {v} {g'} y =
+        from v h₁ g' (subst (λ d. Tested PAGES (Head w d m p) (λ q. one (eqb p q)) h true h₁ → Visited w d m p h g₁ v h₁ g') (sym z) (λ t. leaf-at w m p h h₁ g₁ es ent v g' t y) x)
 
     module _ (above : l ≡ 0 → ⊥) where
       entered : Tested PAGES (Head w (suc (l - 1)) m p) (λ q. one (eqb p q)) h true h₁
       entered = subst (λ d. Tested PAGES (Head w d m p) (λ q. one (eqb p q)) h true h₁) (sym (up l above)) x
 
-      pub walk-good : {h' g' : List ℕ} {b : Rect} → b ≡ bounds es → Below w (l - 1) es h₁ g₁ true h' g' → Visited w l m p h g (Some b) h' g'
+      pub walk-good : {h' g' : List Bool} {b : Rect} → b ≡ bounds es → Below w (l - 1) es h₁ g₁ true h' g' → Visited w l m p h g (Some b) h' g'
       walk-good {h'} {g'} {b} z y = from (Some b) h' g' (subst (λ d. Visited w d m p h g₁ (Some b) h' g') (up l above) (good-at w m p h h₁ g₁ es ent (l - 1) h' g' entered b z y))
 
-      pub walk-bad : {h' g' : List ℕ} → Below w (l - 1) es h₁ g₁ false h' g' → Visited w l m p h g None h' g'
+      pub walk-bad : {h' g' : List Bool} → Below w (l - 1) es h₁ g₁ false h' g' → Visited w l m p h g None h' g'
       walk-bad {h'} {g'} y = from None h' g' (subst (λ d. Visited w d m p h g₁ None h' g') (up l above) (bad-at w m p h h₁ g₁ es ent (l - 1) h' g' entered y))

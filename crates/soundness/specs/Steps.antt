@@ -1,5 +1,5 @@
 -- What the inner functions of check are held to: the pages under a page, and the marks that a walk over them leaves.
-use Rattle.std.specs.Prelude.{ℕ, zero, suc, ◌+◌, ◌*◌, ◌≤◌, ◌<◌, max, ◌≡◌, Bool, true, false, ◌&&◌, cond, Option, is_some, IfSome, List, length, get_or, drop, T, eqb, leb}
+use Rattle.std.specs.Prelude.{ℕ, zero, suc, ◌+◌, ◌*◌, ◌≤◌, ◌<◌, ◌≡◌, Bool, true, false, ◌&&◌, cond, Option, is_some, IfSome, List, length, get_or, drop, T, eqb, leb}
 use Rattle.pages.specs.Under.{under, seen}
 use Rattle.pages.specs.declared.Rect.{Rect}
 use Rattle.pages.specs.declared.Entry.{Entry}
@@ -9,17 +9,21 @@ use Rattle.pages.specs.Rectangles.{valid, bounds}
 use Rattle.pages.specs.Layout.{page, page_words, table_in}
 use Rattle.pages.specs.Sound.{is, zeros}
 
--- below n, h' has f q more marks at each q than h, and never two
-abbrev pub Adds : ℕ → List ℕ → List ℕ → (ℕ → ℕ) → Type 0
-Adds n h h' f = (q : ℕ) → q < n → (get_or h' q 0 ≡ get_or h q 0 + f q) × (get_or h' q 0 ≤ max 1 (get_or h q 0))
+-- how many marks q has, one at most
+abbrev pub mark_of : List Bool → ℕ → ℕ
+mark_of h q = one (get_or h q false)
+
+-- below n, h' has f q more marks at each q than h
+abbrev pub Adds : ℕ → List Bool → List Bool → (ℕ → ℕ) → Type 0
+Adds n h h' f = (q : ℕ) → q < n → mark_of h' q ≡ mark_of h q + f q
 
 -- there is room for f q more marks at each q
-abbrev pub Room : ℕ → List ℕ → (ℕ → ℕ) → Type 0
-Room n h f = (q : ℕ) → q < n → get_or h q 0 + f q ≤ 1
+abbrev pub Room : ℕ → List Bool → (ℕ → ℕ) → Type 0
+Room n h f = (q : ℕ) → q < n → mark_of h q + f q ≤ 1
 
--- the sum of the first n marks
-unfoldable pub total_of : List ℕ → ℕ → ℕ
-total_of h n = sum_below n (λ q. get_or h q 0)
+-- the number of marks below n
+unfoldable pub total_of : List Bool → ℕ → ℕ
+total_of h n = sum_below n (mark_of h)
 
 -- how often the walk from page p at level l comes to page q, and to an entry in a leaf with the r c
 abbrev pub visits : List ℕ → ℕ → ℕ → ℕ → ℕ
@@ -52,23 +56,23 @@ Tree w zero m p = Head w zero m p × Every Piece (page (table_in w) p).entries
 Tree w (suc l) m p = Head w (suc l) m p × Every (λ e. Tree w l FEWEST e.r × (e.rect ≡ bounds (page (table_in w) e.r).entries)) (page (table_in w) p).entries
 
 -- a test of P that adds f to the marks below n: passed where P holds and there is room
-pub record Tested (n : ℕ) (P : Type 0) (f : ℕ → ℕ) (h : List ℕ) (r : Bool) (h' : List ℕ) : Type 0 where
+pub record Tested (n : ℕ) (P : Type 0) (f : ℕ → ℕ) (h : List Bool) (r : Bool) (h' : List Bool) : Type 0 where
   pub yes : r ≡ true → P × Adds n h h' f
   pub no : r ≡ false → P → Room n h f → ⊥
 
 -- of a leaf's entries: with what bounds it is passed
-pub record LeafTested (es : List Entry) (g : List ℕ) (r : Option Rect) (g' : List ℕ) : Type 0 where
+pub record LeafTested (es : List Entry) (g : List Bool) (r : Option Rect) (g' : List Bool) : Type 0 where
   pub tested : Tested PIECES (Every Piece es) (λ c. sum (is c) es) g (is_some r) g'
   pub exact : IfSome r (λ b. b ≡ bounds es)
 
 -- of page p with all that is under it
-pub record Visited (w : List ℕ) (l m p : ℕ) (h g : List ℕ) (r : Option Rect) (h' g' : List ℕ) : Type 0 where
+pub record Visited (w : List ℕ) (l m p : ℕ) (h g : List Bool) (r : Option Rect) (h' g' : List Bool) : Type 0 where
   pub yes : is_some r ≡ true → Tree w l m p × Adds PAGES h h' (visits w l p) × Adds PIECES g g' (stores w l p)
   pub no : is_some r ≡ false → Tree w l m p → Room PAGES h (visits w l p) → Room PIECES g (stores w l p) → ⊥
   pub exact : IfSome r (λ b. b ≡ bounds (page (table_in w) p).entries)
 
 -- each page below k is marked, and as many piece numbers as word 2 says
-abbrev pub Complete : List ℕ → ℕ → List ℕ → List ℕ → Type 0
+abbrev pub Complete : List ℕ → ℕ → List Bool → List Bool → Type 0
 Complete w k h g = (total_of h k ≡ k) × (total_of g PIECES ≡ get_or w 2 0)
 
 -- the fewest entries of a root at a level

@@ -1,7 +1,8 @@
 // The check call: one walk over the pages from the root, which tests all that soundness asks.
 #![tactic(auto)]
 
-ghost use Rattle.std.specs.Prelude.{◌≡◌, ◌+◌, ◌*◌, ◌≤◌, ◌<◌, ◌↔◌, ◌==◌, IsTrue, length, sum, slice_index, slice_set, eqb};
+ghost use Rattle.std.specs.Prelude.{◌≡◌, ◌+◌, ◌*◌, ◌≤◌, ◌<◌, ◌↔◌, IsTrue, false, true, not, length, get_or, set, eqb};
+ghost use Rattle.std.specs.List.{count_by};
 ghost use Rattle.pages.specs.Sizes.{PIECES, FANOUT, PAGES, TABLE_WORDS};
 ghost use Rattle.pages.specs.Lists.{one};
 ghost use Rattle.pages.specs.Layout.{table_in};
@@ -53,31 +54,30 @@ fn is_blank(words: &[u32]) -> bool
     words.iter().fold(0, |any, w| any | *w) == 0
 }
 
-fn total(marks: &[u8]) -> u32
-    requires { length marks.now ≤ PIECES }
-    ensures { result ≡ sum marks.now }
+fn total(marks: &[bool]) -> usize
+    ensures { result ≡ count_by (λ marked. marked) marks.now }
 {
-    marks.iter().map(|m| u32::from(*m)).sum()
+    marks.iter().filter(|marked| **marked).count()
 }
 
 // Marks i, and says whether it had no mark yet.
-fn mark(marks: &mut [u8], i: usize) -> bool
+fn mark(marks: &mut [bool], i: usize) -> bool
     requires { i < length marks.old }
-    ensures fresh { result ≡ (slice_index marks.old i == 0) }
-    ensures marked { marks.new ≡ slice_set marks.old i 1 }
+    ensures fresh { result ≡ not (get_or marks.old i false) }
+    ensures marked { marks.new ≡ set marks.old i true }
 {
-    mem::replace(&mut marks[i], 1) == 0
+    !mem::replace(&mut marks[i], true)
 }
 
 // The tests of an entry in a leaf: its number, its rectangle, and that the number was not met before.
-fn take_piece(e: Entry, numbers: &mut [u8; NUMBERS]) -> bool
+fn take_piece(e: Entry, numbers: &mut [bool; NUMBERS]) -> bool
     ensures { Tested PIECES (Piece e) (λ c. is c e) numbers.old result numbers.new }
 {
     e.r < pages::PIECES && e.rect.is_valid() && mark(numbers, e.r as usize)
 }
 
 // The bounds of a leaf's entries, if they pass their tests.
-fn leaf(entries: PageEntries<'_>, numbers: &mut [u8; NUMBERS]) -> Option<Rect>
+fn leaf(entries: PageEntries<'_>, numbers: &mut [bool; NUMBERS]) -> Option<Rect>
     ensures { LeafTested (left entries.entry) numbers.old result numbers.new }
 {
     for e in entries {
@@ -104,8 +104,8 @@ fn is_shaped(page: &[u32; PAGE_WORDS], level: u32, least: u32) -> bool
 struct Walk<'a> {
     table: &'a [u32],
     k: u32,
-    seen: [u8; PAGES],
-    numbers: [u8; NUMBERS],
+    seen: [bool; PAGES],
+    numbers: [bool; NUMBERS],
     ghost long: { TABLE_WORDS ≤ length table.now },
     ghost count: { k ≡ length (table_in table.now).pages },
     ghost most: { k ≤ PAGES },
@@ -150,8 +150,8 @@ impl Walk<'_> {
     fn is_complete(&self) -> bool
         ensures { IsTrue result ↔ Complete self.now.table.now self.now.k self.now.seen self.now.numbers }
     {
-        total(&self.seen[..self.k as usize]) == self.k
-            && total(&self.numbers) == self.table[PIECE_COUNT]
+        total(&self.seen[..self.k as usize]) == self.k as usize
+            && total(&self.numbers) == self.table[PIECE_COUNT] as usize
     }
 }
 
@@ -170,8 +170,8 @@ fn is_sound_from(table: &[u32], k: u32, root: u32, level: u32) -> bool
     let mut walk = Walk {
         table,
         k,
-        seen: [0; PAGES],
-        numbers: [0; NUMBERS],
+        seen: [false; PAGES],
+        numbers: [false; NUMBERS],
     };
     walk.visit(level, root_fewest(level), root).is_some()
         && walk.is_complete()
