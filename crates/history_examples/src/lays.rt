@@ -3,7 +3,7 @@ ghost use Rattle.std.specs.Prelude.{◌≤◌};
 
 use crate::draws::Generator;
 use history::CALL_WORDS;
-use pages::{EDGE, NUMBERS, PIECES, Rect};
+use pages::{EDGE, NUMBERS, PIECES, Piece, Rect};
 
 // The longest list.
 pub const MOST_CALLS: usize = 3_000;
@@ -25,11 +25,6 @@ pub enum Lay {
     Refused,
 }
 
-struct Call {
-    number: u32,
-    rect: Rect,
-}
-
 // The rectangle that starts at (left, low).
 pub fn sized(left: u32, low: u32, width: u32, height: u32) -> Rect {
     Rect {
@@ -40,53 +35,53 @@ pub fn sized(left: u32, low: u32, width: u32, height: u32) -> Rect {
     }
 }
 
-fn grid(c: u16) -> Call {
+fn grid(c: u16) -> Piece {
     let c = u32::from(c);
-    Call {
+    Piece {
         number: c,
         rect: sized(c % 32 * 900, c / 32 * 700, 800, 600),
     }
 }
 
-fn equal(c: u16) -> Call {
-    Call {
+fn equal(c: u16) -> Piece {
+    Piece {
         number: u32::from(c),
         rect: sized(5, 5, 5, 5),
     }
 }
 
-fn strip(c: u16) -> Call {
+fn strip(c: u16) -> Piece {
     let c = u32::from(c);
     let rect = if c % 2 == 0 {
         sized(900 * c, 0, 1, EDGE)
     } else {
         sized(0, 900 * c, EDGE, 1)
     };
-    Call { number: c, rect }
+    Piece { number: c, rect }
 }
 
-fn nested(c: u16) -> Call {
+fn nested(c: u16) -> Piece {
     let c = u32::from(c);
     let size = EDGE - 2 * c;
-    Call {
+    Piece {
         number: c,
         rect: sized(c, c, size, size),
     }
 }
 
-fn spread(c: u16, draws: &mut Generator) -> Call {
+fn spread(c: u16, draws: &mut Generator) -> Piece {
     let left = 15 * draws.below(65_536);
     let low = 15 * draws.below(65_536);
-    Call {
+    Piece {
         number: u32::from(c),
         rect: sized(left, low, 1 + draws.below(9_999), 1 + draws.below(9_999)),
     }
 }
 
-fn tiny(c: u16, draws: &mut Generator) -> Call {
+fn tiny(c: u16, draws: &mut Generator) -> Piece {
     let left = draws.below(8);
     let low = draws.below(8);
-    Call {
+    Piece {
         number: 341 * u32::from(c) % PIECES,
         rect: sized(left, low, 1 + draws.below(4), 1 + draws.below(4)),
     }
@@ -102,12 +97,12 @@ fn faulty(mut rect: Rect, fault: u32) -> Rect {
     rect
 }
 
-fn refused(draws: &mut Generator) -> Call {
+fn refused(draws: &mut Generator) -> Piece {
     let number = draws.below(1_100);
     let left = draws.below(1_000);
     let low = draws.below(1_000);
     let rect = sized(left, low, draws.below(40), draws.below(40));
-    Call {
+    Piece {
         number,
         rect: faulty(rect, draws.below(16)),
     }
@@ -128,7 +123,7 @@ impl Lay {
         }
     }
 
-    fn call(self, i: u16, draws: &mut Generator) -> Call {
+    fn piece(self, i: u16, draws: &mut Generator) -> Piece {
         match self {
             Lay::Rising | Lay::Shuffled => grid(i),
             Lay::Falling => grid(from_last(i)),
@@ -155,7 +150,7 @@ pub fn write(lay: Lay, x: u32, words: &mut [u32]) {
     let (calls, _) = words.as_chunks_mut::<CALL_WORDS>();
     let mut draws = Generator::new(x);
     for (i, call) in (0..u16::MAX).zip(calls.iter_mut()) {
-        let Call { number, rect } = lay.call(i, &mut draws);
+        let Piece { number, rect } = lay.piece(i, &mut draws);
         *call = [number, rect.x1, rect.y1, rect.x2, rect.y2];
     }
     if let Lay::Shuffled = lay {

@@ -2,7 +2,7 @@
 use crate::draws::Generator;
 use crate::lays::{Lay, MOST_CALLS, sized, write};
 use history::CALL_WORDS;
-use pages::{COUNT, PAGE_COUNT, Rect, TABLE_WORDS};
+use pages::{COUNT, PAGE_COUNT, Piece, Rect, TABLE_WORDS};
 use printing::{ask, checksum, head_and_sum, number};
 use refusals::{ACCEPTED, Refusal, refusal_of};
 use std::io;
@@ -145,8 +145,8 @@ fn stop(
 
 fn place_all(calls: &[u32], table: &mut [u32], returned: &mut [u32]) {
     let (calls, _) = calls.as_chunks::<CALL_WORDS>();
-    for (&[number, x1, y1, x2, y2], refusal) in calls.iter().zip(returned.iter_mut()) {
-        *refusal = refusal_of(&placing::place(table, number, Rect { x1, y1, x2, y2 }));
+    for (&call, refusal) in calls.iter().zip(returned.iter_mut()) {
+        *refusal = refusal_of(&placing::place(table, Piece::from(call)));
     }
 }
 
