@@ -54,7 +54,8 @@ front w n p l k =
     let x : List ℕ = take n w in
     let xl : length x ≡ n = omega (arith, length-take n w) in
     let a : drop (TABLE_HEAD + PAGE_WORDS * p) (x ++ drop n w) ≡ drop (TABLE_HEAD + PAGE_WORDS * p) x ++ drop n w = drop-append-le (TABLE_HEAD + PAGE_WORDS * p) x (drop n w) (omega arith) in
-    let b : take PAGE_WORDS (drop (TABLE_HEAD + PAGE_WORDS * p) x ++ drop n w) ≡ take PAGE_WORDS (drop (TABLE_HEAD + PAGE_WORDS * p) x) = take-append-le PAGE_WORDS (drop (TABLE_HEAD + PAGE_WORDS * p) x) (drop n w) (omega (arith, length-drop (TABLE_HEAD + PAGE_WORDS * p) x)) in
+    let b : take PAGE_WORDS (drop (TABLE_HEAD + PAGE_WORDS * p) x ++ drop n w) ≡ take PAGE_WORDS (drop (TABLE_HEAD + PAGE_WORDS * p) x) =
+    take-append-le PAGE_WORDS (drop (TABLE_HEAD + PAGE_WORDS * p) x) (drop n w) (omega (arith, length-drop (TABLE_HEAD + PAGE_WORDS * p) x)) in
     ap (λ y. page_words y p) (sym (take-append-drop n w)) ∙ (ap (take PAGE_WORDS) a ∙ b)
 
 -- the words of a sound slice are those of the table in it

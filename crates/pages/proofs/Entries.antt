@@ -79,4 +79,6 @@ module _ (t : Table) (F : Facts t) where
       unnamed t.root (child_entries (page t p)) (omega (arith, z, sum-at (λ x. sum (is t.root) (child_entries x)) t.pages p no_page l))
 
 pub pieces-leaves : (ps : List Page) → sum (λ p. length (piece_entries p)) ps ≡ leaves (λ x. 1) ps
-pieces-leaves ps = sum_same (λ p. length (piece_entries p)) (λ p. sum (λ x. 1) (piece_entries p)) ps (at_every (λ p. length (piece_entries p) ≡ sum (λ x. 1) (piece_entries p)) ps no_page (λ i k. sym (sum-length (piece_entries (page_at ps i)))))
+pieces-leaves ps =
+    sum_same (λ p. length (piece_entries p)) (λ p. sum (λ x. 1) (piece_entries p)) ps
+    (at_every (λ p. length (piece_entries p) ≡ sum (λ x. 1) (piece_entries p)) ps no_page (λ i k. sym (sum-length (piece_entries (page_at ps i)))))

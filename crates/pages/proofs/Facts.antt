@@ -12,7 +12,8 @@ use Rattle.pages.specs.Sizes.{PIECES, PAGES}
 use Rattle.pages.specs.Lists.{all_of, all, Every}
 use Rattle.pages.specs.Rectangles.{valid, same_rect, bounds}
 use Rattle.pages.specs.Layout.{Page, Table, no_page, page}
-use Rattle.pages.specs.Sound.{child_entries, piece_entries, every_child, every_piece, parents, stored, pieces, sound_root, sound_levels, sound_refs, fewest, sound_sizes, sound_bounds, sound_pieces, sound_table}
+use Rattle.pages.specs.Sound.{child_entries, piece_entries, every_child, every_piece, parents, stored, pieces}
+use Rattle.pages.specs.Sound.{sound_root, sound_levels, sound_refs, fewest, sound_sizes, sound_bounds, sound_pieces, sound_table}
 use Rattle.pages.specs.Claims.{sound_but}
 use Rattle.pages.proofs.Lists.{holds, all-of, all-below, below_all, every, every→all, every-at, at_every}
 

@@ -155,7 +155,8 @@ page-words c s n z =
     let z' : T (zeros (drop (ENTRY_WORDS * get_or c 1 0) (drop 2 c))) = rw drop-drop z in
     let r : pack encode_entry no_entry FANOUT (unpack decode_entry ENTRY_WORDS (get_or c 1 0) (drop 2 c)) ≡ drop 2 c =
     repack encode_entry no_entry ENTRY_WORDS size-entry decode_entry blank-entry (get_or c 1 0) 8 (drop 2 c) (omega (arith, length-drop 2 c)) n
-    (λ i l. entry-words (take 5 (drop (ENTRY_WORDS * i) (drop 2 c))) (omega (arith, length-take 5 (drop (ENTRY_WORDS * i) (drop 2 c)), length-drop (ENTRY_WORDS * i) (drop 2 c), length-drop 2 c))) z' in
+    (λ i l. entry-words (take 5 (drop (ENTRY_WORDS * i) (drop 2 c)))
+    (omega (arith, length-take 5 (drop (ENTRY_WORDS * i) (drop 2 c)), length-drop (ENTRY_WORDS * i) (drop 2 c), length-drop 2 c))) z' in
     sym (ends c 0 (omega arith) ∙ rw (ends c 1 (omega arith), length-unpack, r))
 
 pub page-at : (w : List ℕ) (i : ℕ) → i < get_or w 0 0 → page (decode w) i ≡ decode_page (page_words w i)
@@ -180,7 +181,8 @@ encode-decode w s h z =
     let z2' : T (zeros (drop (PAGE_WORDS * k) (drop 3 w))) = rw drop-drop z2 in
     let r : pack encode_page no_page PAGES (unpack decode_page PAGE_WORDS k (drop 3 w)) ≡ drop 3 w =
     repack encode_page no_page PAGE_WORDS size-page decode_page blank-page k PAGES (drop 3 w) (omega (arith, length-drop 3 w)) (omega (arith, f.most, kl))
-    (λ i l. rw drop-drop (page-words (page_words w i) (omega (arith, length-take PAGE_WORDS (drop (TABLE_HEAD + PAGE_WORDS * i) w), length-drop (TABLE_HEAD + PAGE_WORDS * i) w, f.most, kl)) (few w f i l) (all-below k _ z1 i l))) z2' in
+    (λ i l. rw drop-drop (page-words (page_words w i) (omega (arith, length-take PAGE_WORDS (drop (TABLE_HEAD + PAGE_WORDS * i) w), length-drop (TABLE_HEAD + PAGE_WORDS * i) w, f.most, kl))
+    (few w f i l) (all-below k _ z1 i l))) z2' in
     sym (ends w 0 (omega arith) ∙ rw (ends w 1 (omega arith), ends w 2 (omega arith), length-unpack, r))
 
 -- one page changed, or one page more: the words are the same but for the PAGE_WORDS at TABLE_HEAD + PAGE_WORDS * p

@@ -46,7 +46,9 @@ entry-back e = refl
 page-back : (p : Page) → length p.entries ≤ 8 → decode_page (encode_page p) ≡ p
 unfolding decode_page encode_page
 page-back p l =
-    let r = unpack-pack encode_entry no_entry ENTRY_WORDS size-entry decode_entry blank-entry FANOUT p.entries l (at_every (λ x. decode_entry (encode_entry x) ≡ x) p.entries no_entry (λ i k. entry-back (get_or p.entries i no_entry))) in
+    let r =
+    unpack-pack encode_entry no_entry ENTRY_WORDS size-entry decode_entry blank-entry FANOUT p.entries l
+    (at_every (λ x. decode_entry (encode_entry x) ≡ x) p.entries no_entry (λ i k. entry-back (get_or p.entries i no_entry))) in
     ap (λ es. record { level = p.level; entries = es }) r
 
 -- of any table that fits the words, also one that is not sound yet

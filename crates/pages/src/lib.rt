@@ -1,7 +1,7 @@
 // The page table as lent words: its sizes, readers over the words of one page, rectangles, and the empty call.
 #![tactic(auto)]
 
-ghost use Rattle.std.specs.Prelude.{List, ℕ, ◌≡◌, ◌+◌, ◌*◌, ◌≤◌, ◌<◌, length, get_or};
+ghost use Rattle.std.specs.Prelude.{List, ℕ, ◌≡◌, ◌≤◌, ◌<◌, length, get_or};
 ghost use Rattle.std.specs.Fn.{FnOnceReturnsAtMut, FnOnceTakesAtMut};
 ghost use Rattle.refusals.specs.Numbers.{refusal_of};
 ghost use Rattle.pages.specs.Sizes.{PAGE_WORDS, PAGES, TABLE_WORDS, FANOUT};

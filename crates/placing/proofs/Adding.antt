@@ -91,7 +91,8 @@ module _ (a c : ℕ) (ps : List Page) (rest : List ℕ) (p : ℕ) (e : Entry) (p
   add-cut f l =
       let k : length (set ps p low) ≡ length ps = length-set ps p low in
       let more : set (put_page (tabled a c (set ps p low) rest) (length ps) (encode_page high)) 0 (length ps + 1) ≡ tabled a c (set ps p low ++ (high ∷ [])) rest =
-      subst (λ m. set (put_page (tabled a c (set ps p low) rest) m (encode_page high)) 0 (m + 1) ≡ tabled a c (set ps p low ++ (high ∷ [])) rest) k (page-append a c (set ps p low) rest high (omega arith)) in
+      subst (λ m. set (put_page (tabled a c (set ps p low) rest) m (encode_page high)) 0 (m + 1) ≡ tabled a c (set ps p low ++ (high ∷ [])) rest) k
+      (page-append a c (set ps p low) rest high (omega arith)) in
       add_open w p e ∙ rw (page-words a c ps rest p small, count_word g, le-ltb (length g.entries) FANOUT (omega arith), pages-word a c ps rest, lt-ltb (length ps) PAGES l, split-is f, more)
 
   pub add-fill : length g.entries ≤ FANOUT → length (fill p es ps).pages ≤ PAGES → add_to w p e ≡ written a c rest (fill p es ps)

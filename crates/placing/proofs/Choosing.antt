@@ -116,7 +116,8 @@ module _ {S : Type 0} {steps : S → Option (ℕ × Entry) → S → Type 0} {s 
   listed : (xs : List (ℕ × Entry)) → Drains steps s xs → xs ≡ enumerate_from 0 es
   listed xs d = sym (map-id xs) ∙ items_from_drains xs (d.1.0, d.1.1, λ w. (d.0, d.1.2)) road
 
-pub chosen-least : {S F : Type 0} {steps : S → Option (ℕ × Entry) → S → Type 0} {s : S} (g : Mut F (Bor (ℕ × Entry) × Unit {0}) Cost) {f : F} (new : Rect) (w : List ℕ) (n : ℕ) (es : List Entry) (r : Option (ℕ × Entry))
+pub chosen-least : {S F : Type 0} {steps : S → Option (ℕ × Entry) → S → Type 0} {s : S}
+    (g : Mut F (Bor (ℕ × Entry) × Unit {0}) Cost) {f : F} (new : Rect) (w : List ℕ) (n : ℕ) (es : List Entry) (r : Option (ℕ × Entry))
     → n ≡ count_in w → es ≡ entries_in w n → PicksMinByKey steps g cost_cmp s f r → YieldsList steps (λ p. (p.0, p.1)) s (enumerate_from 0 es)
     → ((x : ℕ × Entry) (k : Cost) (q : F) → CalledAt g f x k q → (q ≡ f) × (k ≡ cost_of new x.1.rect))
     → (o : Option (ℕ × Entry)) → r ≡ o → MatchOption o (0 ≡ chosen_in w new) (λ p. p.0 ≡ chosen_in w new)

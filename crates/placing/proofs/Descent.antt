@@ -85,7 +85,12 @@ module _ (a c : ℕ) (rest : List ℕ) (s : Step) (new : Rect) (p i : ℕ) (pl :
 
   reset-is : reset_entry (tabled a c ps rest) p i q ≡ tabled a c qs rest
   reset-is = reset-open (tabled a c ps rest) p i q
-      ∙ rw (page-words a c ps rest p (omega arith), entry-for a c ps rest q (omega arith) (eight q ql), entry-set g i (entry_for q ps) il (eight p pl), page-set a c ps rest p (page_of g.level es) pl (omega arith))
+      ∙ rw (
+        page-words a c ps rest p (omega arith),
+        entry-for a c ps rest q (omega arith) (eight q ql),
+        entry-set g i (entry_for q ps) il (eight p pl),
+        page-set a c ps rest p (page_of g.level es) pl (omega arith),
+      )
 
   -- without a split the bounds are the old ones, widened
   module _ (w : bounds (page_at ps q).entries ≡ widen x.rect new) where

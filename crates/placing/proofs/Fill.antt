@@ -104,7 +104,15 @@ module _ (ps : List Page) (p : ℕ) (es : List Entry) (pl : p < length ps) (le :
     least = in_cut (λ x. min 4 (length es) ≤ length x.entries) (omega (arith, length-take 4 (ordered es), length-ordered es)) (omega (arith, length-drop 4 (ordered es), length-ordered es));
     whole = λ b. omega arith;
     every = λ P e. in_cut (λ x. Every P x.entries) (every_take P 4 (ordered es) (every-ordered P es e)) (every_drop P 4 (ordered es) (every-ordered P es e));
-    total = λ W g h. omega (arith, sum-append W (set ps p fst4) (snd5 ∷ []), sum-set W ps p fst4 no_page pl, h (take 4 (ordered es)), h (drop 4 (ordered es)), h (page_at ps p).entries, sum-parts g es);
+    total = λ W g h. omega (
+      arith,
+      sum-append W (set ps p fst4) (snd5 ∷ []),
+      sum-set W ps p fst4 no_page pl,
+      h (take 4 (ordered es)),
+      h (drop 4 (ordered es)),
+      h (page_at ps p).entries,
+      sum-parts g es,
+    );
     around =
         let m : length (set ps p fst4 ++ (snd5 ∷ [])) - 1 ≡ length ps = omega (arith, length-set ps p fst4, length-append (set ps p fst4) (snd5 ∷ [])) in
         ap (λ x. widen (bounds x.entries) (bounds (page_at (set ps p fst4 ++ (snd5 ∷ [])) (length (set ps p fst4 ++ (snd5 ∷ [])) - 1)).entries)) cut-here

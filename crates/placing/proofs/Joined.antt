@@ -68,7 +68,8 @@ unfolding placed_words
 words_open w n r = refl
 
 -- a split root gets a new root
-root-made : (a c : ℕ) (ps : List Page) (rest : List ℕ) (r level : ℕ) → r < length ps → length ps < PAGES → ((q : ℕ) → q < length ps → length (page_at ps q).entries ≤ FANOUT) → level ≡ (page_at ps r).level
+root-made : (a c : ℕ) (ps : List Page) (rest : List ℕ) (r level : ℕ) → r < length ps → length ps < PAGES → ((q : ℕ) → q < length ps → length (page_at ps q).entries ≤ FANOUT)
+    → level ≡ (page_at ps r).level
     → root_made (tabled a c ps rest) r (length ps - 1) (level + 1) ≡ tabled (length ps) c (new_root r ps) rest
 root-made a c ps rest r level rl most eight lv =
     let w : List ℕ = tabled a c ps rest in

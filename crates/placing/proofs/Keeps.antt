@@ -307,7 +307,8 @@ module _ (ps : List Page) (B : Before ps) (l p i : ℕ) (e : Entry) (pl : p < le
       go : (j : ℕ) → j < length (page_at ps p).entries → Dec (j ≡ i) → Fits u.pages (suc l) (get_or (set (page_at ps p).entries i x) j no_entry)
       go j jl (yes h) = rw (h, get_or-set_same (page_at ps p).entries i x no_entry il) fits-x
       go j jl (no h) = rw (get_or-set_other (page_at ps p).entries i j x no_entry h)
-          (same-child (get_or (page_at ps p).entries j no_entry) (only-place ps B l p i pl lv il j jl h) (every-at (Fits ps (suc l)) (page_at ps p).entries no_entry (fits-here ps B l p i pl lv il) j jl))
+          (same-child (get_or (page_at ps p).entries j no_entry) (only-place ps B l p i pl lv il j jl h)
+          (every-at (Fits ps (suc l)) (page_at ps p).entries no_entry (fits-here ps B l p i pl lv il) j jl))
 
   fits_last : T s.split → Fits u.pages (suc l) (entry_for (length s.pages - 1) s.pages)
   unfolding entry_for
@@ -388,7 +389,9 @@ module _ (ps : List Page) (B : Before ps) (l p i : ℕ) (e : Entry) (pl : p < le
 -- all the way
 pub after : (l p : ℕ) (e : Entry) (ps : List Page) → Before ps → p < length ps → (page_at ps p).level ≡ l → After ps l p e (down l p e ps)
 unfolding down
-after zero p e ps B pl lv = leaf-after ps p e B pl lv (down zero p e ps) (filled ps p ((page_at ps p).entries ++ (e ∷ [])) pl (omega (arith, length-append (page_at ps p).entries (e ∷ []), B.eight p pl)))
+after zero p e ps B pl lv =
+    leaf-after ps p e B pl lv (down zero p e ps)
+    (filled ps p ((page_at ps p).entries ++ (e ∷ [])) pl (omega (arith, length-append (page_at ps p).entries (e ∷ []), B.eight p pl)))
 after (suc l) p e ps B pl lv =
     let i : ℕ = choose e.rect (page_at ps p).entries in
     let il : i < length (page_at ps p).entries = choose-below e.rect (page_at ps p).entries (B.some p pl (omega arith)) in

@@ -322,6 +322,7 @@ place-holds t n r F vr vn free f = go s.split refl
     s : Step
     s = root_step t n r
 
-    go : (b : Bool) → s.split ≡ b → leaves f (cond b (table_of (length s.pages) (suc t.count) (new_root t.root s.pages)) (table_of t.root (suc t.count) s.pages)).pages ≡ f (entry_of r n) + leaves f t.pages
+    go : (b : Bool) → s.split ≡ b → leaves f (cond b (table_of (length s.pages) (suc t.count) (new_root t.root s.pages)) (table_of t.root (suc t.count) s.pages)).pages
+        ≡ f (entry_of r n) + leaves f t.pages
     go true h = hold2 t F n r vr vn free s (root-after t n r F) (rw h tt) f
     go false h = (root-after t n r F).holding f

@@ -3,5 +3,6 @@ pub mod Place
 pub mod Calls
 pub mod Standing
 pub mod Parts
+pub mod Nine
 pub mod Steps
 pub mod Claims

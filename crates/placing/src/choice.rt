@@ -1,6 +1,5 @@
 // The entry to go to: the one whose area grows least.
-ghost use Rattle.std.specs.Prelude.{◌≡◌, ◌-◌, length};
-ghost use Rattle.pages.specs.Sizes.{PAGE_WORDS};
+ghost use Rattle.std.specs.Prelude.{◌≡◌, ◌-◌};
 ghost use Rattle.placing.specs.Place.{area};
 ghost use Rattle.placing.specs.Parts.{cost_of};
 ghost use Rattle.placing.specs.Steps.{chosen_in};
@@ -8,16 +7,11 @@ ghost use Rattle.placing.specs.Steps.{chosen_in};
 use super::words::{Slot, entry_count};
 use pages::{PAGE_WORDS, Rect};
 
-pub fn width(r: Rect) -> u32
-    ensures { result ≡ r.x2 - r.x1 }
+// The width and the height.
+pub fn sides(r: Rect) -> (u32, u32)
+    ensures { result ≡ (r.x2 - r.x1, r.y2 - r.y1) }
 {
-    r.x2.saturating_sub(r.x1)
-}
-
-pub fn height(r: Rect) -> u32
-    ensures { result ≡ r.y2 - r.y1 }
-{
-    r.y2.saturating_sub(r.y1)
+    (r.x2.saturating_sub(r.x1), r.y2.saturating_sub(r.y1))
 }
 
 // Areas reach 10^12.
@@ -25,7 +19,8 @@ pub fn height(r: Rect) -> u32
 fn area(r: Rect) -> u64
     ensures { result ≡ area r }
 {
-    u64::from(width(r)) * u64::from(height(r))
+    let (width, height) = sides(r);
+    u64::from(width) * u64::from(height)
 }
 
 // What it costs to go to an entry: by how much its area grows; ties go to the smaller area.

@@ -18,7 +18,7 @@ ghost use Rattle.placing.specs.Steps.{split_into, add_to, bounds_at, entry_for_i
 
 use choice::choose;
 use number::PageNumber;
-use order::ordered_nine;
+use order::Nine;
 use pages::{
     COUNT, Entry, FANOUT, LEVEL, PAGE_COUNT, PIECE_COUNT, PIECES, Piece, ROOT, Rect, TABLE_WORDS,
     ValidRect,
@@ -36,7 +36,7 @@ fn split_page(table: &mut [u32; TABLE_WORDS], p: PageNumber, k: PageNumber, e: E
 {
     let page = pages::page_of(table, p.index());
     let level = page[LEVEL];
-    let es = ordered_nine(page, e);
+    let es = Nine { page, last: e }.ordered();
     pages::change_page(
         table,
         p.index(),

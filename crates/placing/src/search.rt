@@ -1,6 +1,6 @@
 // Whether a piece number stands in the table.
 ghost use Rattle.std.specs.Prelude.{◌≡◌, ◌≤◌, length, get_or, ltb};
-ghost use Rattle.pages.specs.Sizes.{FANOUT, PAGE_WORDS, PAGES, TABLE_WORDS};
+ghost use Rattle.pages.specs.Sizes.{PAGES, TABLE_WORDS};
 ghost use Rattle.pages.specs.Lists.{sum};
 ghost use Rattle.pages.specs.Sound.{is};
 ghost use Rattle.pages.specs.Left.{left};

@@ -36,9 +36,9 @@ pub fn write_entry(page: &mut [u32; PAGE_WORDS], slot: Slot, e: Entry)
 pub fn widen_entry(page: &mut [u32; PAGE_WORDS], slot: Slot, new: Rect)
     ensures { page.new ≡ entry_widened page.old slot.index new }
 {
-    let old = pages::entry_of(page, slot.index);
-    let rect = old.rect.widened(new);
-    write_entry(page, slot, Entry { rect, r: old.r });
+    let mut e = pages::entry_of(page, slot.index);
+    e.rect = e.rect.widened(new);
+    write_entry(page, slot, e);
 }
 
 #[tactic(auto, unfolding(crate::specs::Steps::appended))]

@@ -14,10 +14,12 @@ pub returns-in-None : goal.returns-in-None
 returns-in-None t c =
     let a = c.args in
     rw (← c.in_ok-p.ensures)
-    (place-kept a.level a.table.now _ _ _ a.e _ c.in_ok-p.p.below c.if-level-eq0.false (c.page_of-page.ensures ∙ ap (page_words a.table.now) c.index.ensures.same) c.choose-slot.ensures c.entry_of-q.ensures _ _ _ c.place_at.ensures c.in-None.is c.widen_entry.ensures)
+    (place-kept a.level a.table.now _ _ _ a.e _ c.in_ok-p.p.below c.if-level-eq0.false
+    (c.page_of-page.ensures ∙ ap (page_words a.table.now) c.index.ensures.same) c.choose-slot.ensures c.entry_of-q.ensures _ _ _ c.place_at.ensures c.in-None.is c.widen_entry.ensures)
 
 pub returns-in-Some : goal.returns-in-Some
 returns-in-Some t c =
     let a = c.args in
     rw (← c.in_ok-p.ensures)
-    (place-parted a.level a.table.now _ _ _ a.e _ c.in_ok-p.p.below c.if-level-eq0.false (c.page_of-page.ensures ∙ ap (page_words a.table.now) c.index.ensures.same) c.choose-slot.ensures c.entry_of-q.ensures _ _ _ _ c.place_at.ensures c.in-Some.is c.add_part.ensures)
+    (place-parted a.level a.table.now _ _ _ a.e _ c.in_ok-p.p.below c.if-level-eq0.false
+    (c.page_of-page.ensures ∙ ap (page_words a.table.now) c.index.ensures.same) c.choose-slot.ensures c.entry_of-q.ensures _ _ _ _ c.place_at.ensures c.in-Some.is c.add_part.ensures)

@@ -11,5 +11,6 @@ returns c =
     let t = c.args.table.now in
     let n = c.args.number in
     held-any t n (get_or t 0 0) _
-    (cases_from_any _ _ _ (λ p. ltb 0 (held_in (page_words t p) n) ≡ true) (λ p. ltb 0 (held_in (page_words t p) n) ≡ false) c.any.ensures.ran (YieldsList-from_range 0 (get_or t 0 0) (get_or t 0 0) refl (omega arith))
+    (cases_from_any _ _ _ (λ p. ltb 0 (held_in (page_words t p) n) ≡ true) (λ p. ltb 0 (held_in (page_words t p) n) ≡ false) c.any.ensures.ran
+    (YieldsList-from_range 0 (get_or t 0 0) (get_or t 0 0) refl (omega arith))
     (λ p q k. search (rules, tests)) (λ p q k. search (rules, tests)))
