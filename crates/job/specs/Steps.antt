@@ -1,11 +1,21 @@
 -- What the functions over a job's bytes are held to, item by item.
-use Rattle.std.specs.Prelude.{ℕ, zero, suc, List, [], ◌++◌}
+use Rattle.std.specs.Prelude.{ℕ, zero, suc, ◌+◌, ◌*◌, ◌≡◌, List, [], ◌++◌, length, get_or}
+use Rattle.std.specs.List.{concat}
 use Rattle.pages.specs.Calls.{empty_words}
 use Rattle.placing.specs.Calls.{place_call}
 use Rattle.query.specs.Calls.{query_call}
+use Rattle.job.specs.Sizes.{WORD_BYTES, WORD_VALUES}
 use Rattle.job.specs.Job.{Query}
 use Rattle.job.specs.Output.{piece_line, query_line, answer_of}
-use Rattle.job.specs.Words.{piece_count, piece_at, query_start, query_at}
+use Rattle.job.specs.Words.{word_at, piece_count, piece_at, query_start, query_at}
+
+-- the bytes are those of the words, one behind the other
+abbrev pub InWords : List ℕ → List (List ℕ) → Type 0
+InWords bytes words = (concat words ≡ bytes) × (length bytes ≡ WORD_BYTES * length words)
+
+-- the clause of two words, each as its bytes
+abbrev pub clause_in : List (List ℕ) → ℕ
+clause_in words = word_at (get_or words 0 []) 0 + WORD_VALUES * word_at (get_or words 1 []) 0
 
 -- the table after the first i pieces
 unfoldable pub table_at : List ℕ → ℕ → List ℕ

@@ -16,8 +16,8 @@ query-requires g c = (search rules, (c.requires.2, c.ask-found.auto.answer ∙ c
 pub returns-clause-line : goal.returns-clause-line
 returns-clause-line g c = let query = c.args.self.now in
     c.query.ensures.bytes
-    ∙ ap (λ l. c.args.lines.now ++ l) (line-made query.job.bytes.now query.position query.start c.args.table.now c.args.answer.now _ _ c.requires.0 query.begins c.requires.1 c.ask-found.ensures)
+    ∙ ap (λ l. c.args.lines.now ++ l) (line-made query.job.bytes.now query.position c.args.table.now c.args.answer.now _ _ _ _ c.requires.0 query.refers query.asks c.requires.1 c.ask-found.ensures)
 
 pub returns-clause-answer : goal.returns-clause-answer
 returns-clause-answer g c = let query = c.args.self.now in
-    answer-left query.job.bytes.now query.position query.start c.args.table.now c.args.answer.now _ _ c.requires.0 query.begins c.requires.1 c.ask-found.ensures
+    answer-left query.job.bytes.now query.position c.args.table.now c.args.answer.now _ _ _ _ c.requires.0 query.refers query.asks c.requires.1 c.ask-found.ensures
