@@ -1,8 +1,7 @@
 -- Each turn puts one line more in the buffer, behind what was kept.
 use Rattle.std.proofs.Common.{◌∙◌, refl, ap}
-use Rattle.std.proofs.KnownBytes.{Appends-nil}
 use Rattle.job.specs.declared.queries.Queries.{Queries}
-use Rattle.job_io.proofs.Gathered.{no_line, line_more, next-line}
+use Rattle.job_io.proofs.Gathered.{no_line, line_more, prints-none, next-line}
 use Rattle.job_io.proofs.answer_queries.Goals as goal
 
 pub loop-query-init : goal.loop-query-init
@@ -10,7 +9,7 @@ loop-query-init g c =
     let same = c.into_iter-query-iterator.ensures.into_iter_gives in
     let first = ap (λ (s : Queries). s.next) same ∙ c.queries-query-items.ensures.first in
     let bytes = ap (λ (s : Queries). s.job.bytes.now) same ∙ c.queries-query-items.ensures.same in
-    (tt, tt, bytes, refl, refl, c.requires.1 ∙ rw (first, no_line) refl, rw first (Appends-nil _))
+    (tt, tt, bytes, refl, c.requires.1 ∙ rw (first, no_line) refl, rw first (prints-none g.W.Write.contents c.args.out.now))
 
 pub loop-query-preserved : goal.loop-query-preserved
 loop-query-preserved g c =
@@ -22,7 +21,6 @@ loop-query-preserved g c =
       tt,
       step.2 ∙ turn.invariant.2,
       c.answer.auto.answer ∙ turn.invariant.3,
-      room.same_writer ∙ turn.invariant.4,
-      rw step.3 (line ∙ rw (room.front, turn.invariant.5, line_more) refl),
-      rw step.3 (next-line _ _ _ _ _ _ turn.query-iterator.next turn.invariant.6 room.all line),
+      rw step.3 (line ∙ rw (room.front, turn.invariant.4, line_more) refl),
+      rw step.3 (next-line g.W.Write.contents _ _ _ _ _ turn.query-iterator.next turn.invariant.5 room.all line),
     )
