@@ -5,13 +5,13 @@ mod lines;
 mod queries;
 mod words;
 
-ghost use Rattle.std.specs.Prelude.{◌≡◌, ◌+◌, ◌≤◌, ◌<◌, ◌++◌, true, length, MatchOption, IfSome, is_some};
+ghost use Rattle.std.specs.Prelude.{◌≡◌, ◌+◌, ◌≤◌, ◌<◌, true, length, MatchOption, IfSome, is_some};
 ghost use Rattle.std.specs.List.{concat};
 ghost use Rattle.pages.specs.Sizes.{TABLE_WORDS};
 ghost use Rattle.pages.specs.Calls.{empty_words};
-ghost use Rattle.job.specs.Sizes.{JOB_BYTES, LINE_BYTES};
+ghost use Rattle.job.specs.Sizes.{JOB_BYTES};
 ghost use Rattle.job.specs.Words.{piece_count, piece_at, query_count, query_start, well_formed};
-ghost use Rattle.job.specs.Steps.{InWords, table_at, piece_line_at};
+ghost use Rattle.job.specs.Steps.{InWords, HasRoom, Gathers, table_at, piece_line_at};
 
 use history::CALL_WORDS;
 pub use lines::{LINE_BYTES, Lines};
@@ -102,10 +102,8 @@ impl<'a> Job<'a> {
         ensures number { result.0 ≡ (piece_at self.now.bytes.now position).number }
         ensures rect { result.1 ≡ (piece_at self.now.bytes.now position).rect }
     {
-        let [number, x1, y1, x2, y2] = words_at::<CALL_WORDS>(
-            self.words,
-            1 + CALL_WORDS * position as usize,
-        );
+        let at = 1 + CALL_WORDS * position as usize;
+        let [number, x1, y1, x2, y2] = words_at::<CALL_WORDS>(self.words, at);
         (number, Rect { x1, y1, x2, y2 })
     }
 
@@ -116,10 +114,8 @@ impl<'a> Job<'a> {
         table: &mut [u32],
         lines: &mut Lines<N>,
     )
-        requires { (position < self.now.pieces) × (table.old ≡ table_at self.now.bytes.now position)
-            × (length lines.old + LINE_BYTES ≤ N) }
-        ensures most { length lines.new ≤ length lines.old + LINE_BYTES }
-        ensures line { lines.new ≡ lines.old ++ piece_line_at self.now.bytes.now position }
+        requires { (position < self.now.pieces) × (table.old ≡ table_at self.now.bytes.now position) × HasRoom N lines.old }
+        ensures line { Gathers lines.old lines.new (piece_line_at self.now.bytes.now position) }
         ensures table { table.new ≡ table_at self.now.bytes.now (position + 1) }
     {
         let (number, rect) = self.piece_at(position);

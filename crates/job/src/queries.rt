@@ -1,11 +1,10 @@
 // The queries of a job, one after the other.
-ghost use Rattle.std.specs.Prelude.{◌≡◌, ◌+◌, ◌-◌, ◌≤◌, ◌<◌, ◌++◌, length, map};
+ghost use Rattle.std.specs.Prelude.{◌≡◌, ◌-◌, ◌≤◌, ◌<◌, length, map};
 ghost use Rattle.std.specs.Iterator.{at_most};
 ghost use Rattle.pages.specs.Sizes.{PIECES};
 ghost use Rattle.query.specs.Calls.{answer_of, query_sound};
-ghost use Rattle.job.specs.Sizes.{LINE_BYTES};
 ghost use Rattle.job.specs.Words.{piece_count, query_start, query_at};
-ghost use Rattle.job.specs.Steps.{clause_in, table_at, query_line_at, answer_after};
+ghost use Rattle.job.specs.Steps.{clause_in, HasRoom, Gathers, table_at, query_line_at, answer_after};
 
 use crate::words::{Word, clauses_at, first_clauses, words_at};
 use crate::{CLAUSE_WORDS, Job, Lines, QUERY_HEAD};
@@ -89,9 +88,8 @@ impl Query<'_> {
     /// Answers it, and gathers its line.
     pub fn answer<const N: usize>(&self, table: &[u32], answer: &mut [u16], lines: &mut Lines<N>)
         requires { (table.now ≡ table_at self.now.job.bytes.now (piece_count self.now.job.bytes.now))
-            × (length answer.old ≡ PIECES) × (length lines.old + LINE_BYTES ≤ N) }
-        ensures most { length lines.new ≤ length lines.old + LINE_BYTES }
-        ensures line { lines.new ≡ lines.old ++ query_line_at self.now.job.bytes.now self.now.position }
+            × (length answer.old ≡ PIECES) × HasRoom N lines.old }
+        ensures line { Gathers lines.old lines.new (query_line_at self.now.job.bytes.now self.now.position) }
         ensures answer { answer.new ≡ answer_after self.now.job.bytes.now self.now.position answer.old }
     {
         let table = SoundTable { words: table };

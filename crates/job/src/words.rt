@@ -15,8 +15,7 @@ pub(crate) type Word = [u8; WORD_BYTES];
 // The words that the bytes make up, if they are whole words.
 #[tactic(auto, using(crate::proofs::Reading::joined))]
 pub(crate) fn words_of(bytes: &[u8]) -> Option<&[Word]>
-    ensures { MatchOption result (0 < length bytes.now % WORD_BYTES)
-        (λ words. InWords bytes.now words.now) }
+    ensures { MatchOption result (0 < length bytes.now % WORD_BYTES) (λ words. InWords bytes.now words.now) }
 {
     match bytes.as_chunks::<WORD_BYTES>() {
         (words, []) => Some(words),
@@ -58,7 +57,7 @@ fn clause_in(words: &[Word; CLAUSE_WORDS]) -> u64
     u64::from_le_bytes([a, b, c, d, e, f, g, h])
 }
 
-// The clauses, but one more than a query may have at the most.
+// The first clauses: as many as a query may have, and one more.
 pub(crate) fn first_clauses(clauses: &[[Word; CLAUSE_WORDS]]) -> ArrayVec<u64, CLAUSES_READ>
     ensures { result.items ≡ map clause_in (take CLAUSES_READ clauses.now) }
 {

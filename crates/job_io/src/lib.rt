@@ -1,13 +1,12 @@
 // Running a job: its bytes read from a reader, its output written to a writer.
 #![tactic(auto)]
 
-ghost use Rattle.std.specs.Prelude.{◌≡◌, ◌+◌, ◌≤◌, ◌<◌, [], length, take, ⊤, IfOk, OnOk, OnErr};
+ghost use Rattle.std.specs.Prelude.{◌≡◌, ◌≤◌, ◌<◌, [], length, take, ⊤, IfOk, OnOk, OnErr};
 ghost use Rattle.std.specs.Io.{ReadsAtMost};
 ghost use Rattle.std.specs.Io.KnownBytes.{Appends, Consumes, IsAtEnd, ReadConsumes};
 ghost use Rattle.pages.specs.Calls.{empty_words};
-ghost use Rattle.job.specs.Sizes.{LINE_BYTES};
 ghost use Rattle.job.specs.Words.{piece_count, query_count, output};
-ghost use Rattle.job.specs.Steps.{table_at, piece_line_at, query_line_at, lines_to};
+ghost use Rattle.job.specs.Steps.{HasRoom, table_at, piece_line_at, query_line_at, lines_to};
 ghost use Rattle.job_io.specs.Gathered.{kept, held_pieces, held_queries, held_at_end, Gathered};
 ghost use Rattle.job_io.specs.Printed.{Printed};
 ghost use Rattle.job_io.specs.Prints.{Prints};
@@ -93,7 +92,7 @@ impl<'a, W: Write> Output<'a, W> {
     // Writes what is gathered where the next line might not fit behind it.
     #[tactic(auto, using(crate::proofs::Gathered::kept_laws))]
     fn make_room(&mut self) -> io::Result<()>
-        ensures room { OnOk result (length self.new.lines + LINE_BYTES ≤ BUFFER_BYTES) }
+        ensures room { OnOk result (HasRoom BUFFER_BYTES self.new.lines) }
         ensures front { OnOk result (self.new.lines ≡ kept BUFFER_BYTES self.old.lines) }
         ensures all { OnOk result (Prints W.contents self.old self.new []) }
     {

@@ -16,7 +16,7 @@ loop-query-preserved g c =
     let turn = c.loop-query in
     let room = c.in_ok-make_room.ensures in
     let step = c.in-Some.ensures.steps in
-    let line = c.answer.ensures.line ∙ rw (step.0, turn.invariant.2, step.1) refl in (
+    let line = c.answer.ensures.line.bytes ∙ rw (step.0, turn.invariant.2, step.1) refl in (
       tt,
       tt,
       step.2 ∙ turn.invariant.2,

@@ -10,6 +10,6 @@ pub loop-position-preserved : goal.loop-position-preserved
 loop-position-preserved g c =
     let turn = c.loop-position in let room = c.in_ok-make_room.ensures in (
       c.place_piece.ensures.table,
-      c.place_piece.ensures.line ∙ rw (room.front, turn.invariant.1, line_more) refl,
-      next-line g.W.Write.contents _ _ _ _ _ turn.position turn.invariant.2 room.all c.place_piece.ensures.line,
+      c.place_piece.ensures.line.bytes ∙ rw (room.front, turn.invariant.1, line_more) refl,
+      next-line g.W.Write.contents _ _ _ _ _ turn.position turn.invariant.2 room.all c.place_piece.ensures.line.bytes,
     )

@@ -20,4 +20,8 @@ pub returns-clause-rect : goal.returns-clause-rect
 returns-clause-rect c =
     let at = piece_start c.args.position in
     let word = read_from _ _ c.words_at.result CALL_WORDS at c.args.self.now.cut c.words_at.ensures in
-    rect-is _ _ _ _ _ _ _ _ (word 1 (at + 1) (omega arith) refl) (word 2 (at + 1 + 1) (omega arith) (omega arith)) (word 3 (at + 1 + 2) (omega arith) (omega arith)) (word 4 (at + 1 + 3) (omega arith) (omega arith))
+    rect-is _ _ _ _ _ _ _ _
+    (word 1 (at + 1) (omega arith) refl)
+    (word 2 (at + 1 + 1) (omega arith) (omega arith))
+    (word 3 (at + 1 + 2) (omega arith) (omega arith))
+    (word 4 (at + 1 + 3) (omega arith) (omega arith))

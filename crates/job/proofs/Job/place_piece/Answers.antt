@@ -1,5 +1,6 @@
 -- The table before the piece is sound.
-use Rattle.std.proofs.Common.{arith, ap, ◌∙◌, ◌++◌}
+use Rattle.std.proofs.Common.{arith, subst}
+use Rattle.job.specs.Steps.{Gathers}
 use Rattle.job.proofs.Tables.{fine_of}
 use Rattle.job.proofs.Items.{piece-placed, table-placed}
 use Rattle.job.proofs.Job.place_piece.Goals as goal
@@ -10,8 +11,8 @@ place_sound-placed-requires g c = let F = fine_of c.args.table.now c.args.self.n
 pub returns-clause-line : goal.returns-clause-line
 returns-clause-line g c =
     let piece = c.piece_at-number.ensures in
-    c.piece.ensures.bytes
-    ∙ ap (λ l. c.args.lines.now ++ l) (piece-placed c.args.self.now.bytes.now c.args.position _ _ _ _ _ c.requires.1 piece.number piece.rect c.place_sound-placed.ensures)
+    subst (Gathers c.args.lines.now _) (piece-placed c.args.self.now.bytes.now c.args.position _ _ _ _ _ c.requires.1 piece.number piece.rect c.place_sound-placed.ensures)
+    c.piece.ensures
 
 pub returns-clause-table : goal.returns-clause-table
 returns-clause-table g c =

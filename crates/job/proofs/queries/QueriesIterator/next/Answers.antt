@@ -45,8 +45,11 @@ invariant_of-query c =
     let b = s.job.bytes.now in
     let at = s.start in
     let word = read_from _ _ c.words_at.result QUERY_HEAD at s.job.cut c.words_at.ensures in
+    let count = word CLAUSE_COUNT_AT (at + CLAUSE_COUNT_AT) (omega arith) refl in
+    let reference = rect-is _ _ _ _ _ _ _ _ (word 0 at (omega arith) (omega arith)) (word 1 (at + 1) (omega arith) refl) (word 2 (at + 2) (omega arith) refl) (word 3 (at + 3) (omega arith) refl) in
+    let clauses = c.clauses_at.ensures ∙ ap (λ l. clauses_at l (at + QUERY_HEAD) (get_or c.words_at.result CLAUSE_COUNT_AT 0)) s.job.cut.0 in
     record {
       listed = omega (arith, s.listed, c.if-self.false);
-      refers = query-refers b s.next at _ s.begins (rect-is _ _ _ _ _ _ _ _ (word 0 at (omega arith) (omega arith)) (word 1 (at + 1) (omega arith) refl) (word 2 (at + 2) (omega arith) refl) (word 3 (at + 3) (omega arith) refl));
-      asks = query-asks b s.next at _ _ s.begins (word CLAUSE_COUNT_AT (at + CLAUSE_COUNT_AT) (omega arith) refl) (c.clauses_at.ensures ∙ ap (λ l. clauses_at l (at + QUERY_HEAD) (get_or c.words_at.result CLAUSE_COUNT_AT 0)) s.job.cut.0);
+      refers = query-refers b s.next at _ s.begins reference;
+      asks = query-asks b s.next at _ _ s.begins count clauses;
     }
