@@ -1,13 +1,14 @@
 -- A query's line: it heeds only the length of the answer slice, and of more than eight clauses nine are as good as all.
-use Prim.Native.Nat.{ℕ, zero, suc, ◌+◌, ◌*◌, ◌≤◌, ◌<◌, min}
+use Prim.Native.Nat.{ℕ, ◌+◌, ◌≤◌, ◌<◌}
 use mathlib.Core.Path.{◌≡◌, refl, sym, ap, ◌∙◌, subst}
 use mathlib.Core.Bool.{Bool, true, false, not, cond}
 use mathlib.Core.List.{List, [], ◌∷◌, ◌++◌}
 use native.Mathlib.Omega.{arith}
 use borrow.Author.Tests.{leb-true, leb-false}
-use lib.ListN.{length, drop, length-append}
+use lib.ListN.{length, take, drop, length-append}
 use lib.Dec.{leb, ltb, eqb}
-use lib.Seq.{take-append_seam}
+use lib.Seq.{take-append_seam, length-take-le}
+use Rattle.std.proofs.lemmas.List.{take_all}
 use Rattle.relations.specs.Query.{CLAUSES, CLAUSE_COUNT, refusal_of}
 use Rattle.relations.proofs.Answer.{refuse-many}
 use Rattle.pages.specs.declared.Rect.{Rect}
@@ -16,9 +17,7 @@ use Rattle.pages.specs.Layout.{table_in}
 use Rattle.pages.specs.Refusals.{ACCEPTED, RECTANGLE_NOT_VALID, ANSWER_TOO_SHORT}
 use Rattle.query.specs.declared.Answer.{Answer}
 use Rattle.query.specs.Calls.{sound_refusal, no_answer, query_listing, query_opened, query_sound}
-use Rattle.job.specs.Sizes.{CLAUSE_WORDS}
 use Rattle.job.specs.Lines.{ANSWERED, REFUSED, line}
-use Rattle.job.specs.Words.{clause_at, clauses_at}
 use Rattle.job.specs.Output.{query_line}
 
 -- what a query call gives, by its refusal, listing and number of opened pages
@@ -91,25 +90,16 @@ many_is w q clauses answer h = sound-is w q clauses answer ∙ rw (many-refused 
     go true = refl
     go false = refl
 
-pub length-clauses : (b : List ℕ) (at n : ℕ) → length (clauses_at b at n) ≡ n
-unfolding clauses_at
-length-clauses b at zero = refl
-length-clauses b at (suc n) = omega (arith, length-append (clauses_at b at n) (clause_at b (at + CLAUSE_WORDS * n) ∷ []), length-clauses b at n)
-
 -- the clauses that are read: all, or nine
-pub enough : (w : List ℕ) (q : Rect) (b : List ℕ) (at n k : ℕ) (answer : List ℕ) → k ≡ min n (CLAUSES + 1)
-    → query_sound w q (clauses_at b at k) answer ≡ query_sound w q (clauses_at b at n) answer
-enough w q b at n k answer e = go (leb n (CLAUSES + 1)) refl
+pub enough : (w : List ℕ) (q : Rect) (clauses answer : List ℕ) → query_sound w q (take (CLAUSES + 1) clauses) answer ≡ query_sound w q clauses answer
+enough w q clauses answer = go (leb (length clauses) (CLAUSES + 1)) refl
   where
-    go : (x : Bool) → leb n (CLAUSES + 1) ≡ x → query_sound w q (clauses_at b at k) answer ≡ query_sound w q (clauses_at b at n) answer
-    go true h = let same : k ≡ n = omega (arith, leb-true n (CLAUSES + 1) h) in rw same
+    go : (x : Bool) → leb (length clauses) (CLAUSES + 1) ≡ x → query_sound w q (take (CLAUSES + 1) clauses) answer ≡ query_sound w q clauses answer
+    go true h = ap (λ l. query_sound w q l answer) (take_all _ clauses (leb-true (length clauses) (CLAUSES + 1) h))
     go false h =
-        many_is w q (clauses_at b at k) answer (omega (arith, leb-false n (CLAUSES + 1) h, length-clauses b at k))
-        ∙ sym (many_is w q (clauses_at b at n) answer (omega (arith, leb-false n (CLAUSES + 1) h, length-clauses b at n)))
-
-pub asked_all : (w : List ℕ) (q q' : Rect) (b : List ℕ) (at given : ℕ) (read answer : List ℕ) → q ≡ q' → read ≡ clauses_at b at (min given (CLAUSES + 1))
-    → query_sound w q read answer ≡ query_sound w q' (clauses_at b at given) answer
-asked_all w q q' b at given read answer eq er = rw (eq, er) (enough w q' b at given (min given (CLAUSES + 1)) answer refl)
+        let many = leb-false (length clauses) (CLAUSES + 1) h in
+        many_is w q (take (CLAUSES + 1) clauses) answer (omega (arith, many, length-take-le (CLAUSES + 1) clauses (omega (arith, many))))
+        ∙ sym (many_is w q clauses answer (omega (arith, many)))
 
 pub hits-of : (w : List ℕ) (q : Rect) (clauses answer : List ℕ) (a : Answer) (after : List ℕ) → (a, after) ≡ query_sound w q clauses answer → a.hits ≤ length after
 hits-of w q clauses answer a after e = subst (λ x. x.0.hits ≤ length x.1) (sym e) (hits-within w q clauses answer)

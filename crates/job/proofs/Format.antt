@@ -13,9 +13,8 @@ use Rattle.job.specs.Sizes.{WORD_BYTES, BYTE_VALUES, WORD_VALUES, QUERY_HEAD, CL
 use Rattle.job.specs.Job.{rect_words, piece_words, clause_words, query_words, job_words, little_endian, job_bytes}
 use Rattle.job.specs.Words.{word_at, rect_at, clause_at, clauses_at, piece_count, piece_start, piece_at, pieces_in, query_count, query_start, query_at, queries_in, job_in, well_formed}
 use Rattle.job.specs.Claims.{Bytes}
-use Rattle.job.proofs.Reading.{no_clause, last-clause}
+use Rattle.job.proofs.Reading.{no_clause, last-clause, length-clauses}
 use Rattle.job.proofs.Places.{first-start, next_start}
-use Rattle.job.proofs.Asking.{length-clauses}
 use Rattle.pages.proofs.Lists.{T_true}
 use Rattle.job.proofs.Items.{exact}
 use Rattle.query.proofs.Concat.{concat-append}

@@ -15,6 +15,7 @@ use Rattle.query.specs.declared.Answer.{Answer}
 use Rattle.query.specs.Calls.{query_sound, query_call}
 use Rattle.history.specs.Replay.{CALL_WORDS}
 use Rattle.job.specs.Sizes.{JOB_BYTES, WORD_BYTES, QUERY_HEAD, CLAUSE_COUNT_AT, CLAUSE_WORDS}
+use Rattle.job.specs.Job.{Query}
 use Rattle.job.specs.Output.{piece_line, query_line, room, answer_of}
 use Rattle.job.specs.Words.{word_at, rect_at, clauses_at, piece_count, piece_start, piece_at, query_count, query_start, query_at, well_formed}
 use Rattle.job.specs.Steps.{table_at, piece_line_at, query_line_at, answer_after}
@@ -33,15 +34,15 @@ module _ (b : List ℕ) (good : well_formed b ≡ true) where
   pub exact : length b ≡ WORD_BYTES * query_start b (query_count b)
   exact = eqb→eq _ _ parts.1
 
-  pub piece-room : (i : ℕ) → i < piece_count b → WORD_BYTES * (piece_start i + CALL_WORDS) ≤ length b
-  piece-room i h = omega (arith, exact, first-start b, starts-after b (query_count b))
+  pub piece_within : (i words : ℕ) → i < piece_count b → length b ≡ WORD_BYTES * words → piece_start i + CALL_WORDS ≤ words
+  piece_within i words h e = omega (arith, exact, first-start b, starts-after b (query_count b))
 
-  pub query_within : (i at : ℕ) → i < query_count b → at ≡ query_start b i → WORD_BYTES * (at + QUERY_HEAD + CLAUSE_WORDS * word_at b (at + CLAUSE_COUNT_AT)) ≤ length b
-  query_within i at h e = rw e (omega (arith, exact, next_start b i, ends-before b i (query_count b) h))
+  pub query_within : (i at words : ℕ) → i < query_count b → at ≡ query_start b i → length b ≡ WORD_BYTES * words → at + QUERY_HEAD + CLAUSE_WORDS * word_at b (at + CLAUSE_COUNT_AT) ≤ words
+  query_within i at words h e l = rw e (omega (arith, exact, next_start b i, ends-before b i (query_count b) h))
 
 -- a piece placed, from what the place call returned
 module _ (b : List ℕ) (i : ℕ) (t : List ℕ) (number : ℕ) (rect : Rect) (t' : List ℕ) (r : ℕ)
-    (et : t ≡ table_at b i) (en : number ≡ word_at b (piece_start i)) (er : rect ≡ rect_at b (piece_start i + 1))
+    (et : t ≡ table_at b i) (en : number ≡ (piece_at b i).number) (er : rect ≡ (piece_at b i).rect)
     (called : (r, t') ≡ place_sound t number rect) where
   as_called : (r, t') ≡ place_call (table_at b i) (piece_at b i).number (piece_at b i).rect
   as_called = called ∙ rw (et, en, er) (sym (place_is (table_at b i) (fine-table b i) (piece_at b i).number (piece_at b i).rect))
@@ -54,40 +55,47 @@ module _ (b : List ℕ) (i : ℕ) (t : List ℕ) (number : ℕ) (rect : Rect) (t
   unfolding piece_line_at
   piece-placed = ap (λ x. piece_line i x.0) as_called
 
+-- a query's parts, from its words
+pub query-refers : (b : List ℕ) (i at : ℕ) (r : Rect) → at ≡ query_start b i → r ≡ rect_at b at → r ≡ (query_at b (query_start b i)).reference
+unfolding query_at
+query-refers b i at r e q = q ∙ ap (rect_at b) e
+
+pub query-asks : (b : List ℕ) (i at n : ℕ) (cs : List ℕ) → at ≡ query_start b i → n ≡ word_at b (at + CLAUSE_COUNT_AT) → cs ≡ clauses_at b (at + QUERY_HEAD) n
+    → cs ≡ (query_at b (query_start b i)).clauses
+unfolding query_at
+query-asks b i at n cs e w q = q ∙ rw (w, e) refl
+
 -- a query answered, from what the query call returned
-module _ (b : List ℕ) (i at : ℕ) (table answer : List ℕ) (a : Answer) (after : List ℕ)
-    (et : table ≡ table_at b (piece_count b)) (ea : at ≡ query_start b i) (size : length answer ≡ PIECES)
-    (called : (a, after) ≡ query_sound table (rect_at b at) (clauses_at b (at + QUERY_HEAD) (word_at b (at + CLAUSE_COUNT_AT))) answer) where
+module _ (b : List ℕ) (i : ℕ) (table answer : List ℕ) (a : Answer) (after : List ℕ) (reference : Rect) (clauses : List ℕ)
+    (et : table ≡ table_at b (piece_count b)) (er : reference ≡ (query_at b (query_start b i)).reference) (ec : clauses ≡ (query_at b (query_start b i)).clauses)
+    (size : length answer ≡ PIECES) (called : (a, after) ≡ query_sound table reference clauses answer) where
   abbrev end : List ℕ
   end = table_at b (piece_count b)
 
-  abbrev reference : Rect
-  reference = rect_at b (query_start b i)
-
-  abbrev clauses : List ℕ
-  clauses = clauses_at b (query_start b i + QUERY_HEAD) (word_at b (query_start b i + CLAUSE_COUNT_AT))
+  abbrev query : Query
+  query = query_at b (query_start b i)
 
   room-size : length room ≡ PIECES
   unfolding room
   room-size = length-replicate {A = ℕ} PIECES 0
 
-  line_at : query_line_at b i ≡ query_line i (query_call end reference clauses room)
-  unfolding query_line_at answer_of query_at
+  line_at : query_line_at b i ≡ query_line i (query_call end query.reference query.clauses room)
+  unfolding query_line_at answer_of
   line_at = refl
 
-  answer_at : answer_after b i answer ≡ (query_call end reference clauses answer).1
-  unfolding answer_after query_at
+  answer_at : answer_after b i answer ≡ (query_call end query.reference query.clauses answer).1
+  unfolding answer_after
   answer_at = refl
 
-  as-asked : (a, after) ≡ query_sound end reference clauses answer
-  as-asked = called ∙ rw (et, ea)
+  as-asked : (a, after) ≡ query_sound end query.reference query.clauses answer
+  as-asked = called ∙ rw (et, er, ec)
 
   pub line-made : query_line i (a, after) ≡ query_line_at b i
   line-made =
       ap (query_line i) as-asked
-      ∙ same_line end reference clauses i answer room (size ∙ sym room-size)
-      ∙ ap (query_line i) (sym (query-is end (fine-table b (piece_count b)) reference clauses room))
+      ∙ same_line end query.reference query.clauses i answer room (size ∙ sym room-size)
+      ∙ ap (query_line i) (sym (query-is end (fine-table b (piece_count b)) query.reference query.clauses room))
       ∙ sym line_at
 
   pub answer-left : after ≡ answer_after b i answer
-  answer-left = ap (λ x. x.1) (as-asked ∙ sym (query-is end (fine-table b (piece_count b)) reference clauses answer)) ∙ sym answer_at
+  answer-left = ap (λ x. x.1) (as-asked ∙ sym (query-is end (fine-table b (piece_count b)) query.reference query.clauses answer)) ∙ sym answer_at

@@ -37,9 +37,9 @@ module _ (b : List ℕ) where
   starts-after zero = omega arith
   starts-after (suc n) = omega (arith, next_start n, starts-after n)
 
-  -- a query whose count lies behind the end
-  pub past_end : (at i n : ℕ) → at ≡ query_start b i → i < n → length b < WORD_BYTES * (at + QUERY_HEAD) → length b < WORD_BYTES * query_start b n
-  past_end at i n e l h = omega (arith, next_start i, ends-before i n l)
+  -- a query whose count lies behind the end of some words
+  pub past_end : (words : List (List ℕ)) (at i n : ℕ) → at ≡ query_start b i → i < n → length words ≤ at + CLAUSE_COUNT_AT → length words < query_start b n
+  past_end words at i n e l h = omega (arith, next_start i, ends-before i n l)
 
   -- too long, not what its counts ask for, or exactly that
   whole-tests : well_formed b ≡ leb (length b) JOB_BYTES && eqb (length b) (WORD_BYTES * query_start b (query_count b))
@@ -63,9 +63,6 @@ module _ (b : List ℕ) where
   pub no_count : length b < WORD_BYTES * (piece_start (piece_count b) + 1) → false ≡ well_formed b
   no_count h = not_exact λ same. omega (arith, first-start, starts-after (query_count b))
 
-  pub no_piece_count : length b < WORD_BYTES * (0 + 1) → false ≡ well_formed b
-  no_piece_count h = no_count (omega arith)
-
   pub count_is : (n m : ℕ) → n ≡ piece_count b → m ≡ word_at b (piece_start n) → m ≡ query_count b
   count_is n m e w = w ∙ ap (λ k. word_at b (piece_start k)) e
 
@@ -73,4 +70,4 @@ module _ (b : List ℕ) where
   start_is n e = ap (λ k. piece_start k + 1) e ∙ sym first-start
 
 -- the tests by which a job is read
-pub ruleset reading = (too_long, no_piece_count, no_count, not_exact)
+pub ruleset reading = (too_long, no_count, not_exact)

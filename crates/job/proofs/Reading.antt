@@ -1,59 +1,69 @@
--- Reading words: the four bytes of one, the eight of a clause, a rectangle's from its words, and clauses one by one.
-use Prim.Native.Nat.{ℕ, suc, ◌+◌, ◌-◌, ◌*◌, ◌≤◌, ◌<◌}
-use mathlib.Core.Path.{◌≡◌, refl, ap, ◌∙◌}
-use mathlib.Core.List.{List, [], ◌∷◌, ◌++◌}
+-- Reading words: the four bytes of one, that those of the bytes are all of them, and clauses from pairs of words.
+use Prim.Native.Nat.{ℕ, zero, suc, ◌+◌, ◌-◌, ◌*◌, ◌/◌, ◌%◌, ◌≤◌, ◌<◌}
+use mathlib.Core.Path.{◌≡◌, refl, sym, ap, ◌∙◌}
+use mathlib.Core.List.{List, [], ◌∷◌, ◌++◌, map}
 use native.Mathlib.Omega.{arith}
-use native.Mathlib.Nat.{add-zero}
-use native.Mathlib.Numerals.{add-one}
-use lib.ListN.{length, take, drop, get_or}
-use Rattle.std.specs.Int.{w64, from_le_bytes}
-use Rattle.std.proofs.lemmas.List.{get_or-take, get_or-drop}
+use native.Mathlib.Nat.{add-zero, div-add-mod}
+use lib.ListN.{length, take, drop, get_or, get_or-append, take-append-drop, length-append, length-drop}
+use lib.Seq.{get_or-append-add, length-take-le}
+use Rattle.std.specs.Int.{w32, from_le_bytes}
+use Rattle.std.specs.List.{concat}
+use Rattle.std.specs.Simd.{first_chunks}
+use Rattle.std.proofs.lemmas.List.{get_or-take, get_or-drop, drop-drop, map-append}
 use Rattle.pages.specs.Rectangles.{rect_of}
 use Rattle.job.specs.Sizes.{WORD_BYTES, CLAUSE_WORDS}
 use Rattle.job.specs.Words.{word_at, clause_at, clauses_at}
+use Rattle.job.specs.Steps.{InWords, clause_in}
 
--- byte k of the first n behind a place
-byte-of : (b : List ℕ) (at n k : ℕ) → k < n → at + n ≤ length b → get_or (take n (take (length b - at) (drop at b))) k 0 ≡ get_or b (at + k) 0
-byte-of b at n k h l = get_or-take n (take (length b - at) (drop at b)) k 0 h ∙ get_or-take (length b - at) (drop at b) k 0 (omega arith) ∙ get_or-drop at b k 0
+-- each has four bytes
+abbrev pub Cut : List (List ℕ) → Type 0
+Cut ws = (i : ℕ) → i < length ws → length (get_or ws i []) ≡ WORD_BYTES
 
-pub word-of : (b word : List ℕ) (i : ℕ) → WORD_BYTES * (i + 1) ≤ length b → word ≡ take 4 (take (length b - WORD_BYTES * i) (drop (WORD_BYTES * i) b))
-    → get_or word 0 0 + get_or word 1 0 * 256 + get_or word 2 0 * 65_536 + get_or word 3 0 * 16_777_216 ≡ word_at b i
+byte-of : (ws : List (List ℕ)) (i k n : ℕ) → Cut ws → i < length ws → k < WORD_BYTES → n ≡ WORD_BYTES * i + k → get_or (concat ws) n 0 ≡ get_or (get_or ws i []) k 0
+byte-of [] i k n cut h l e = absurd (omega arith)
+byte-of (w ∷ ws) zero k n cut h l e =
+    let same : n ≡ k = omega arith in
+    rw same (get_or-append w (concat ws) 0 k (omega (arith, cut 0 (omega arith))))
+byte-of (w ∷ ws) (suc i) k n cut h l e =
+    let behind : n ≡ length w + (WORD_BYTES * i + k) = omega (arith, cut 0 (omega arith)) in
+    rw behind (get_or-append-add w (concat ws) (WORD_BYTES * i + k) 0 ∙ byte-of ws i k (WORD_BYTES * i + k) (λ j s. cut (suc j) (omega arith)) (omega arith) l refl)
+
+pub word_of : (ws : List (List ℕ)) (i : ℕ) → Cut ws → i < length ws → from_le_bytes w32 (get_or ws i []) ≡ word_at (concat ws) i
 unfolding word_at
-word-of b word i h e =
-    let at = WORD_BYTES * i in
-    rw e (rw (
-      byte-of b at 4 0 (omega arith) (omega arith),
-      byte-of b at 4 1 (omega arith) (omega arith),
-      byte-of b at 4 2 (omega arith) (omega arith),
-      byte-of b at 4 3 (omega arith) (omega arith),
-      add-zero at,
-    ) (omega arith))
-
--- byte k of the two words behind a place, by where it lies
-clause-byte : (b two : List ℕ) (i k j : ℕ) → k < 8 → WORD_BYTES * (i + CLAUSE_WORDS) ≤ length b → two ≡ take 8 (take (length b - WORD_BYTES * i) (drop (WORD_BYTES * i) b))
-    → WORD_BYTES * i + k ≡ j → get_or two k 0 ≡ get_or b j 0
-clause-byte b two i k j s h e p = ap (λ l. get_or l k 0) e ∙ byte-of b (WORD_BYTES * i) 8 k s (omega arith) ∙ ap (λ at. get_or b at 0) p
-
-pub clause_of : (b two : List ℕ) (i : ℕ) → WORD_BYTES * (i + CLAUSE_WORDS) ≤ length b → two ≡ take 8 (take (length b - WORD_BYTES * i) (drop (WORD_BYTES * i) b))
-    → from_le_bytes w64 two ≡ clause_at b i
-unfolding word_at
-clause_of b two i h e =
-    let low = WORD_BYTES * i in
-    let high = WORD_BYTES * (i + 1) in
+word_of ws i cut h =
+    let byte : (k n : ℕ) → k < WORD_BYTES → n ≡ WORD_BYTES * i + k → get_or (concat ws) n 0 ≡ get_or (get_or ws i []) k 0 = λ k n l e. byte-of ws i k n cut h l e in
     omega (
       arith,
-      clause-byte b two i 0 low (omega arith) h e (omega arith),
-      clause-byte b two i 1 (low + 1) (omega arith) h e (omega arith),
-      clause-byte b two i 2 (low + 2) (omega arith) h e (omega arith),
-      clause-byte b two i 3 (low + 3) (omega arith) h e (omega arith),
-      clause-byte b two i 4 high (omega arith) h e (omega arith),
-      clause-byte b two i 5 (high + 1) (omega arith) h e (omega arith),
-      clause-byte b two i 6 (high + 2) (omega arith) h e (omega arith),
-      clause-byte b two i 7 (high + 3) (omega arith) h e (omega arith),
+      byte 0 (WORD_BYTES * i) (omega arith) (omega arith),
+      byte 1 (WORD_BYTES * i + 1) (omega arith) refl,
+      byte 2 (WORD_BYTES * i + 2) (omega arith) refl,
+      byte 3 (WORD_BYTES * i + 3) (omega arith) refl,
     )
 
-pub rect-is : (a b c d a' b' c' d' : ℕ) → a ≡ a' → b ≡ b' → c ≡ c' → d ≡ d' → rect_of a b c d ≡ rect_of a' b' c' d'
-rect-is a b c d a' b' c' d' p q r s = cc
+pub value_of : (w : List ℕ) → from_le_bytes w32 w ≡ word_at w 0
+unfolding word_at
+value_of w = omega arith
+
+-- chunks of all elements
+all_chunks : (n k : ℕ) (b : List ℕ) → length b ≡ k * n → concat (first_chunks n k b) ≡ b
+all_chunks n zero [] e = refl
+all_chunks n zero (x ∷ b) e = absurd (omega arith)
+all_chunks n (suc k) b e = ap (λ l. take n b ++ l) (all_chunks n k (drop n b) (omega (arith, length-drop n b))) ∙ take-append-drop n b
+
+pub joined : (b : List ℕ) (ws : List (List ℕ)) → ws ≡ first_chunks WORD_BYTES (length b / WORD_BYTES) b → length b % WORD_BYTES ≡ 0 → concat ws ≡ b
+joined b ws e none = ap concat e ∙ all_chunks WORD_BYTES (length b / WORD_BYTES) b (omega (arith, div-add-mod (length b) WORD_BYTES))
+
+-- one chunk more
+last-chunk : (n k : ℕ) (xs : List (List ℕ)) → first_chunks n (suc k) xs ≡ first_chunks n k xs ++ (take n (drop (k * n) xs) ∷ [])
+last-chunk n zero xs = let none : 0 * n ≡ 0 = omega arith in rw none refl
+last-chunk n (suc k) xs =
+    let more : suc k * n ≡ n + k * n = omega arith in
+    ap (λ l. take n xs ∷ l) (last-chunk n k (drop n xs)) ∙ rw (more, drop-drop) refl
+
+-- word k of some that are read from the words which make up the bytes
+pub read_from : (b : List ℕ) (ws : List (List ℕ)) (read : List ℕ) (n at : ℕ) → InWords b ws → ((k : ℕ) → k < n → get_or read k 0 ≡ word_at (concat ws) (at + k))
+    → (k i : ℕ) → k < n → at + k ≡ i → get_or read k 0 ≡ word_at b i
+read_from b ws read n at cut words k i h e = words k h ∙ ap (λ l. word_at l (at + k)) cut.0 ∙ ap (word_at b) e
 
 -- what the definition says of no clause, and of one more
 pub no_clause : (bytes : List ℕ) (at : ℕ) → clauses_at bytes at 0 ≡ []
@@ -64,5 +74,43 @@ pub last-clause : (bytes : List ℕ) (at n : ℕ) → clauses_at bytes at (suc n
 unfolding clauses_at
 last-clause bytes at n = refl
 
-pub clause_more : (bytes : List ℕ) (at n : ℕ) → clauses_at bytes at (n + 1) ≡ clauses_at bytes at n ++ (clause_at bytes (at + CLAUSE_WORDS * n) ∷ [])
-clause_more bytes at n = ap (clauses_at bytes at) (add-one n) ∙ last-clause bytes at n
+pub length-clauses : (b : List ℕ) (at n : ℕ) → length (clauses_at b at n) ≡ n
+unfolding clauses_at
+length-clauses b at zero = refl
+length-clauses b at (suc n) = omega (arith, length-append (clauses_at b at n) (clause_at b (at + CLAUSE_WORDS * n) ∷ []), length-clauses b at n)
+
+-- a clause of the words `two`, which are those from place j on
+clause_of : (ws two : List (List ℕ)) (j : ℕ) → Cut ws → j + CLAUSE_WORDS ≤ length ws → ((k : ℕ) → k < CLAUSE_WORDS → get_or two k [] ≡ get_or ws (j + k) [])
+    → clause_in two ≡ clause_at (concat ws) j
+clause_of ws two j cut room same =
+    let word : (k : ℕ) → k < CLAUSE_WORDS → word_at (get_or two k []) 0 ≡ word_at (concat ws) (j + k) = λ k l.
+    sym (value_of (get_or two k [])) ∙ ap (from_le_bytes w32) (same k l) ∙ word_of ws (j + k) cut (omega arith) in
+    rw (word 0 (omega arith), word 1 (omega arith), add-zero) refl
+
+-- the clauses of the words `xs`, which are those from place `at` on
+clauses-of : (ws xs : List (List ℕ)) (at n : ℕ) → Cut ws → at + CLAUSE_WORDS * n ≤ length ws → ((k : ℕ) → k < CLAUSE_WORDS * n → get_or xs k [] ≡ get_or ws (at + k) [])
+    → CLAUSE_WORDS * n ≤ length xs → map clause_in (first_chunks CLAUSE_WORDS n xs) ≡ clauses_at (concat ws) at n
+clauses-of ws xs at zero cut room same long = sym (no_clause (concat ws) at)
+clauses-of ws xs at (suc n) cut room same long =
+    let two = take CLAUSE_WORDS (drop (n * CLAUSE_WORDS) xs) in
+    let first = n * CLAUSE_WORDS in
+    let read = clauses-of ws xs at n cut (omega arith) (λ k h. same k (omega arith)) (omega arith) in
+    let last = clause_of ws two (at + CLAUSE_WORDS * n) cut (omega arith)
+    (λ k h. get_or-take CLAUSE_WORDS (drop first xs) k [] h ∙ get_or-drop first xs k [] ∙ same (first + k) (omega arith)
+    ∙ (let place : at + (first + k) ≡ at + CLAUSE_WORDS * n + k = omega arith in ap (λ i. get_or ws i []) place)) in
+    ap (map clause_in) (last-chunk CLAUSE_WORDS n xs)
+    ∙ map-append clause_in (first_chunks CLAUSE_WORDS n xs) (two ∷ [])
+    ∙ rw (read, last) (sym (last-clause (concat ws) at n))
+
+-- the same of a part, cut in two and two
+pub clauses_of : (ws : List (List ℕ)) (pairs : List (List (List ℕ))) (i n : ℕ) → Cut ws → i + CLAUSE_WORDS * n ≤ length ws
+    → (let part = take (i + CLAUSE_WORDS * n - i) (drop i ws) in pairs ≡ first_chunks CLAUSE_WORDS (length part / CLAUSE_WORDS) part) → map clause_in pairs ≡ clauses_at (concat ws) i n
+clauses_of ws pairs i n cut room e =
+    let part = take (i + CLAUSE_WORDS * n - i) (drop i ws) in
+    let long : length part ≡ CLAUSE_WORDS * n = length-take-le _ (drop i ws) (omega (arith, length-drop i ws)) ∙ omega arith in
+    let half : length part / CLAUSE_WORDS ≡ n = omega (arith, long) in
+    ap (map clause_in) (e ∙ ap (λ k. first_chunks CLAUSE_WORDS k part) half)
+    ∙ clauses-of ws part i n cut room (λ k h. get_or-take _ (drop i ws) k [] (omega arith) ∙ get_or-drop i ws k []) (omega (arith, long))
+
+pub rect-is : (a b c d a' b' c' d' : ℕ) → a ≡ a' → b ≡ b' → c ≡ c' → d ≡ d' → rect_of a b c d ≡ rect_of a' b' c' d'
+rect-is a b c d a' b' c' d' p q r s = cc

@@ -6,9 +6,10 @@ use native.Mathlib.Omega.{arith}
 use native.Mathlib.Numerals.{add-one}
 use lib.ListN.{length, take, drop, get_or, length-append, take-append-drop}
 use lib.Seq.{take-suc}
-use Rattle.job.specs.Sizes.{NUMBER_BYTES}
+use Rattle.pages.specs.Sizes.{PIECES}
+use Rattle.job.specs.Sizes.{NUMBER_BYTES, LINE_BYTES}
 use Rattle.job.specs.Lines.{SPACE, NEWLINE, decimal, fields, line}
-use Rattle.job.proofs.Decimal.{number_short}
+use Rattle.job.proofs.Decimal.{number_short, word_short}
 
 pub no_fields : fields [] ≡ []
 unfolding fields
@@ -51,14 +52,15 @@ six-in a b c d e = simp append_assoc refl
 
 two_fields : (letter p r : ℕ) → line letter (p ∷ r ∷ []) ≡ (letter ∷ []) ++ (SPACE ∷ decimal p) ++ (SPACE ∷ decimal r) ++ (NEWLINE ∷ [])
 two_fields letter p r =
-    line_is letter (p ∷ r ∷ [])
-    ∙ ap (λ l. letter ∷ (l ++ (NEWLINE ∷ []))) (first_field p (r ∷ []) ∙ ap (λ l. (SPACE ∷ decimal p) ++ l) (first_field r [] ∙ ap (λ l. (SPACE ∷ decimal r) ++ l) no_fields ∙ append-nil (SPACE ∷ decimal r)))
+    let rest = first_field r [] ∙ ap (λ l. (SPACE ∷ decimal r) ++ l) no_fields ∙ append-nil (SPACE ∷ decimal r) in
+    line_is letter (p ∷ r ∷ []) ∙ ap (λ l. letter ∷ (l ++ (NEWLINE ∷ []))) (first_field p (r ∷ []) ∙ ap (λ l. (SPACE ∷ decimal p) ++ l) rest)
 
 more_fields : (letter p h o : ℕ) (ns : List ℕ) → line letter (p ∷ h ∷ o ∷ ns)
     ≡ (letter ∷ []) ++ (SPACE ∷ decimal p) ++ (SPACE ∷ decimal h) ++ (SPACE ∷ decimal o) ++ fields ns ++ (NEWLINE ∷ [])
 more_fields letter p h o ns =
+    let rest = first_field h (o ∷ ns) ∙ ap (λ l. (SPACE ∷ decimal h) ++ l) (first_field o ns) in
     line_is letter (p ∷ h ∷ o ∷ ns)
-    ∙ ap (λ l. letter ∷ (l ++ (NEWLINE ∷ []))) (first_field p (h ∷ o ∷ ns) ∙ ap (λ l. (SPACE ∷ decimal p) ++ l) (first_field h (o ∷ ns) ∙ ap (λ l. (SPACE ∷ decimal h) ++ l) (first_field o ns)))
+    ∙ ap (λ l. letter ∷ (l ++ (NEWLINE ∷ []))) (first_field p (h ∷ o ∷ ns) ∙ ap (λ l. (SPACE ∷ decimal p) ++ l) rest)
     ∙ ap (λ l. letter ∷ (SPACE ∷ l)) (six-in (decimal p) (SPACE ∷ decimal h) (SPACE ∷ decimal o) (fields ns) (NEWLINE ∷ []))
 
 -- the same behind what stands before the line
@@ -80,3 +82,20 @@ answered_behind s letter p h o ns =
 pub fields_short : (ns : List ℕ) → ((i : ℕ) → get_or ns i 0 < 65_536) → length (fields ns) ≤ NUMBER_BYTES * length ns
 fields_short [] h = rw no_fields (omega arith)
 fields_short (n ∷ ns) h = rw (first_field n ns, length-append) (omega (arith, number_short n (h 0), fields_short ns (λ i. h (suc i))))
+
+-- the parts of a line, and all of it, are no longer than a line may be
+abbrev Word : ℕ → Type 0
+Word n = n < 4_294_967_296
+
+pub two_short : (p r : ℕ) → Word p → Word r → length (SPACE ∷ decimal p) + length (SPACE ∷ decimal r) + 2 ≤ LINE_BYTES
+two_short p r hp hr = omega (arith, word_short p hp, word_short r hr)
+
+pub refused_short : (letter p r : ℕ) → Word p → Word r → length (line letter (p ∷ r ∷ [])) ≤ LINE_BYTES
+refused_short letter p r hp hr = rw (two_fields letter p r, length-append, length-append, length-append) (omega (arith, two_short p r hp hr))
+
+module _ (p h o : ℕ) (ns : List ℕ) (hp : Word p) (hh : Word h) (ho : Word o) (hn : (i : ℕ) → get_or ns i 0 < 65_536) (few : length ns ≤ PIECES) where
+  pub more_short : length (SPACE ∷ decimal p) + length (SPACE ∷ decimal h) + length (SPACE ∷ decimal o) + length (fields ns) + 2 ≤ LINE_BYTES
+  more_short = omega (arith, word_short p hp, word_short h hh, word_short o ho, fields_short ns hn)
+
+  pub answered_short : (letter : ℕ) → length (line letter (p ∷ h ∷ o ∷ ns)) ≤ LINE_BYTES
+  answered_short letter = rw (more_fields letter p h o ns, length-append, length-append, length-append, length-append, length-append) (omega (arith, more_short))

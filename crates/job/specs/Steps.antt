@@ -1,11 +1,21 @@
 -- What the functions over a job's bytes are held to, item by item.
-use Rattle.std.specs.Prelude.{ℕ, zero, suc, List, [], ◌++◌}
+use Rattle.std.specs.Prelude.{ℕ, zero, suc, ◌+◌, ◌*◌, ◌≤◌, ◌≡◌, List, [], ◌++◌, length, get_or}
+use Rattle.std.specs.List.{concat}
 use Rattle.pages.specs.Calls.{empty_words}
 use Rattle.placing.specs.Calls.{place_call}
 use Rattle.query.specs.Calls.{query_call}
+use Rattle.job.specs.Sizes.{WORD_BYTES, WORD_VALUES, LINE_BYTES}
 use Rattle.job.specs.Job.{Query}
 use Rattle.job.specs.Output.{piece_line, query_line, answer_of}
-use Rattle.job.specs.Words.{piece_count, piece_at, query_start, query_at}
+use Rattle.job.specs.Words.{word_at, piece_count, piece_at, query_start, query_at}
+
+-- the bytes are those of the words, one behind the other
+abbrev pub InWords : List ℕ → List (List ℕ) → Type 0
+InWords bytes words = (concat words ≡ bytes) × (length bytes ≡ WORD_BYTES * length words)
+
+-- the clause of two words, each as its bytes
+abbrev pub clause_in : List (List ℕ) → ℕ
+clause_in words = word_at (get_or words 0 []) 0 + WORD_VALUES * word_at (get_or words 1 []) 0
 
 -- the table after the first i pieces
 unfoldable pub table_at : List ℕ → ℕ → List ℕ
@@ -34,3 +44,12 @@ answer_after b i answer =
 abbrev pub lines_to : (ℕ → List ℕ) → ℕ → List ℕ
 lines_to f zero = []
 lines_to f (suc n) = lines_to f n ++ f n
+
+-- a line fits behind what was gathered, where `size` bytes do
+abbrev pub HasRoom : ℕ → List ℕ → Type 0
+HasRoom size gathered = length gathered + LINE_BYTES ≤ size
+
+-- what is gathered behind what was, and that it is no longer than a line
+pub record Gathers (before after text : List ℕ) : Type 0 where
+  pub bytes : after ≡ before ++ text
+  pub most : length text ≤ LINE_BYTES

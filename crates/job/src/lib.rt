@@ -5,18 +5,20 @@ mod lines;
 mod queries;
 mod words;
 
-ghost use Rattle.std.specs.Prelude.{◌≡◌, ◌+◌, ◌*◌, ◌^◌, ◌≤◌, ◌<◌, ◌++◌, true, length, MatchOption, IfSome, is_some};
+ghost use Rattle.std.specs.Prelude.{◌≡◌, ◌+◌, ◌≤◌, ◌<◌, true, length, MatchOption, IfSome, is_some};
+ghost use Rattle.std.specs.List.{concat};
 ghost use Rattle.pages.specs.Sizes.{TABLE_WORDS};
 ghost use Rattle.pages.specs.Calls.{empty_words};
-ghost use Rattle.job.specs.Sizes.{WORD_BYTES, JOB_BYTES, LINE_BYTES};
-ghost use Rattle.job.specs.Words.{word_at, piece_count, query_count, query_start, well_formed};
-ghost use Rattle.job.specs.Steps.{table_at, piece_line_at};
+ghost use Rattle.job.specs.Sizes.{JOB_BYTES};
+ghost use Rattle.job.specs.Words.{piece_count, piece_at, query_count, query_start, well_formed};
+ghost use Rattle.job.specs.Steps.{InWords, HasRoom, Gathers, table_at, piece_line_at};
 
 use history::CALL_WORDS;
 pub use lines::{LINE_BYTES, Lines};
+use pages::Rect;
 pub use queries::{Queries, Query};
 use relations::CLAUSES;
-use words::{checked_word_at, rect_at, word_at};
+use words::{Word, word_at, words_at, words_of};
 
 // The largest job.
 pub const JOB_BYTES: usize = 65_536;
@@ -40,25 +42,27 @@ const CLAUSES_READ: usize = CLAUSES + 1;
 #[derive(Clone, Copy)]
 pub struct Job<'a> {
     pub bytes: &'a [u8],
+    words: &'a [Word],
     pub pieces: u32,
     pub queries: u32,
     start: usize,
+    pub ghost cut: { InWords bytes.now words.now },
     pub ghost whole: { well_formed bytes.now ≡ true },
     pub ghost pieces_are: { pieces ≡ piece_count bytes.now },
     pub ghost queries_are: { queries ≡ query_count bytes.now },
     pub ghost start_is: { start ≡ query_start bytes.now 0 },
 }
 
-// The word behind the last query, if the bytes reach far enough to read each query's count.
+// The word behind the last query, if the words reach far enough to read each query's count.
 #[tactic(auto, using(crate::proofs::Places::next_place, crate::proofs::Places::past_end))]
-fn end_of_queries(bytes: &[u8], start: usize, queries: u32) -> Option<usize>
-    requires { (length bytes.now ≤ JOB_BYTES) × (start ≡ query_start bytes.now 0) × (WORD_BYTES * start ≤ length bytes.now) }
-    ensures { MatchOption result (length bytes.now < WORD_BYTES * query_start bytes.now queries)
-        (λ end. (end ≡ query_start bytes.now queries) × (WORD_BYTES * end < 2 ^ 64)) }
+fn end_of_queries(words: &[Word], start: usize, queries: u32) -> Option<usize>
+    requires { (length words.now ≤ JOB_BYTES) × (start ≡ query_start (concat words.now) 0) × (start ≤ length words.now) }
+    ensures { MatchOption result (length words.now < query_start (concat words.now) queries)
+        (λ end. end ≡ query_start (concat words.now) queries) }
 {
     let mut at = start;
     for _ in 0..queries {
-        let clauses = checked_word_at(bytes, at + CLAUSE_COUNT_AT)?;
+        let clauses = word_at(words, at + CLAUSE_COUNT_AT)?;
         at += QUERY_HEAD + CLAUSE_WORDS * clauses as usize;
     }
     Some(at)
@@ -74,20 +78,33 @@ impl<'a> Job<'a> {
         if JOB_BYTES < bytes.len() {
             return None;
         }
-        let pieces = checked_word_at(bytes, 0)?;
+        let words = words_of(bytes)?;
+        let pieces = word_at(words, 0)?;
         let count = 1 + CALL_WORDS * pieces as usize;
-        let queries = checked_word_at(bytes, count)?;
+        let queries = word_at(words, count)?;
         let start = count + 1;
-        let end = end_of_queries(bytes, start, queries)?;
-        if bytes.len() != WORD_BYTES * end {
+        let end = end_of_queries(words, start, queries)?;
+        if words.len() != end {
             return None;
         }
         Some(Job {
             bytes,
+            words,
             pieces,
             queries,
             start,
         })
+    }
+
+    // The number and the rectangle of a piece.
+    fn piece_at(&self, position: u32) -> (u32, Rect)
+        requires { position < self.now.pieces }
+        ensures number { result.0 ≡ (piece_at self.now.bytes.now position).number }
+        ensures rect { result.1 ≡ (piece_at self.now.bytes.now position).rect }
+    {
+        let at = 1 + CALL_WORDS * position as usize;
+        let [number, x1, y1, x2, y2] = words_at::<CALL_WORDS>(self.words, at);
+        (number, Rect { x1, y1, x2, y2 })
     }
 
     /// Places a piece, and gathers its line, if it is refused.
@@ -97,15 +114,11 @@ impl<'a> Job<'a> {
         table: &mut [u32],
         lines: &mut Lines<N>,
     )
-        requires { (position < self.now.pieces) × (table.old ≡ table_at self.now.bytes.now position)
-            × (length lines.old + LINE_BYTES ≤ N) }
-        ensures most { length lines.new ≤ length lines.old + LINE_BYTES }
-        ensures line { lines.new ≡ lines.old ++ piece_line_at self.now.bytes.now position }
+        requires { (position < self.now.pieces) × (table.old ≡ table_at self.now.bytes.now position) × HasRoom N lines.old }
+        ensures line { Gathers lines.old lines.new (piece_line_at self.now.bytes.now position) }
         ensures table { table.new ≡ table_at self.now.bytes.now (position + 1) }
     {
-        let at = 1 + CALL_WORDS * position as usize;
-        let number = word_at(self.bytes, at);
-        let rect = rect_at(self.bytes, at + 1);
+        let (number, rect) = self.piece_at(position);
         let placed = placing::place_sound(table, number, rect);
         lines.piece(position, placed);
     }

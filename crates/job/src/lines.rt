@@ -1,11 +1,11 @@
 // The lines of the output, gathered in memory.
-ghost use Rattle.std.specs.Prelude.{◌≡◌, ◌+◌, ◌≤◌, ◌<◌, [], ◌∷◌, ◌++◌, length};
+ghost use Rattle.std.specs.Prelude.{◌≡◌, ◌+◌, ◌≤◌, [], ◌∷◌, ◌++◌, length};
 ghost use Rattle.refusals.specs.Numbers.{number_of, refusal_of};
 ghost use Rattle.pages.specs.Sizes.{PIECES};
 ghost use Rattle.query.specs.Calls.{answer_of};
-ghost use Rattle.job.specs.Sizes.{LINE_BYTES};
 ghost use Rattle.job.specs.Lines.{SPACE, decimal, fields, line};
 ghost use Rattle.job.specs.Output.{bad_job, piece_line, query_line};
+ghost use Rattle.job.specs.Steps.{HasRoom, Gathers};
 
 use arrayvec::ArrayVec;
 use itoa::Buffer;
@@ -103,9 +103,8 @@ impl<const N: usize> Lines<N> {
 
     // The line of a refused piece or query.
     fn refused(&mut self, letter: u8, position: u32, refusal: Refusal)
-        requires { length self.old + LINE_BYTES ≤ N }
-        ensures most { length self.new ≤ length self.old + LINE_BYTES }
-        ensures bytes { self.new ≡ self.old ++ line letter (position ∷ number_of refusal ∷ []) }
+        requires { HasRoom N self.old }
+        ensures { Gathers self.old self.new (line letter (position ∷ number_of refusal ∷ [])) }
     {
         self.byte(letter);
         self.field(position);
@@ -115,9 +114,8 @@ impl<const N: usize> Lines<N> {
 
     // The line of an accepted query.
     fn answered(&mut self, position: u32, found: Found, numbers: &[u16])
-        requires { (length self.old + LINE_BYTES ≤ N) × (length numbers.now ≤ PIECES) }
-        ensures most { length self.new ≤ length self.old + LINE_BYTES }
-        ensures bytes { self.new ≡ self.old ++ line ANSWERED (position ∷ found.hits ∷ found.opened ∷ numbers.now) }
+        requires { HasRoom N self.old × (length numbers.now ≤ PIECES) }
+        ensures { Gathers self.old self.new (line ANSWERED (position ∷ found.hits ∷ found.opened ∷ numbers.now)) }
     {
         self.byte(ANSWERED);
         self.field(position);
@@ -130,9 +128,8 @@ impl<const N: usize> Lines<N> {
     /// All that a bad job prints.
     #[tactic(auto, unfolding(crate::specs::Output::bad_job))]
     pub fn bad_job(&mut self)
-        requires { length self.old + LINE_BYTES ≤ N }
-        ensures most { length self.new ≤ length self.old + LINE_BYTES }
-        ensures bytes { self.new ≡ self.old ++ bad_job }
+        requires { HasRoom N self.old }
+        ensures { Gathers self.old self.new bad_job }
     {
         self.text(b"bad job\n");
     }
@@ -140,9 +137,8 @@ impl<const N: usize> Lines<N> {
     // The line of a piece, if it is refused.
     #[tactic(auto, unfolding(crate::specs::Output::piece_line))]
     pub(crate) fn piece(&mut self, position: u32, placed: Result<(), Refusal>)
-        requires { length self.old + LINE_BYTES ≤ N }
-        ensures most { length self.new ≤ length self.old + LINE_BYTES }
-        ensures bytes { self.new ≡ self.old ++ piece_line position (refusal_of placed) }
+        requires { HasRoom N self.old }
+        ensures { Gathers self.old self.new (piece_line position (refusal_of placed)) }
     {
         if let Err(refusal) = placed {
             self.refused(UNPLACED, position, refusal);
@@ -152,9 +148,8 @@ impl<const N: usize> Lines<N> {
     // The line of a query.
     #[tactic(auto, unfolding(crate::specs::Output::query_line))]
     pub(crate) fn query(&mut self, position: u32, found: Result<Found, Refusal>, answer: &[u16])
-        requires { (length self.old + LINE_BYTES ≤ N) × (length answer.now ≡ PIECES) × ((answer_of found).hits ≤ length answer.now) }
-        ensures most { length self.new ≤ length self.old + LINE_BYTES }
-        ensures bytes { self.new ≡ self.old ++ query_line position (answer_of found, answer.now) }
+        requires { HasRoom N self.old × (length answer.now ≡ PIECES) × ((answer_of found).hits ≤ length answer.now) }
+        ensures { Gathers self.old self.new (query_line position (answer_of found, answer.now)) }
     {
         match found {
             Ok(found) => self.answered(position, found, &answer[..found.hits as usize]),

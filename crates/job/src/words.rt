@@ -1,61 +1,69 @@
 // Reading a job's little-endian words.
-ghost use Rattle.std.specs.Prelude.{◌≡◌, ◌+◌, ◌*◌, ◌≤◌, ◌<◌, length, min, MatchOption};
+ghost use Rattle.std.specs.Prelude.{ℕ, ◌≡◌, ◌+◌, ◌*◌, ◌%◌, ◌≤◌, ◌<◌, length, get_or, map, take, MatchOption};
+ghost use Rattle.std.specs.List.{concat};
 ghost use Rattle.job.specs.Sizes.{WORD_BYTES, CLAUSE_WORDS};
-ghost use Rattle.job.specs.Words.{word_at, rect_at, clause_at, clauses_at};
+ghost use Rattle.job.specs.Words.{word_at, clauses_at};
+ghost use Rattle.job.specs.Steps.{InWords, clause_in};
 
 use crate::{CLAUSE_WORDS, CLAUSES_READ, WORD_BYTES};
 use arrayvec::ArrayVec;
-use pages::Rect;
+use std::array;
 
-pub(crate) fn word_at(bytes: &[u8], i: usize) -> u32
-    requires { WORD_BYTES * (i + 1) ≤ length bytes.now }
-    ensures { result ≡ word_at bytes.now i }
-{
-    let at = WORD_BYTES * i;
-    u32::from_le_bytes(*bytes[at..].first_chunk().unwrap())
-}
+// A word of 32 bits, its lowest byte first.
+pub(crate) type Word = [u8; WORD_BYTES];
 
-// Word `i`, if it lies within the bytes.
-pub(crate) fn checked_word_at(bytes: &[u8], i: usize) -> Option<u32>
-    ensures { MatchOption result (length bytes.now < WORD_BYTES * (i + 1))
-        (λ word. (WORD_BYTES * (i + 1) ≤ length bytes.now) × (word ≡ word_at bytes.now i)) }
+// The words that the bytes make up, if they are whole words.
+#[tactic(auto, using(crate::proofs::Reading::joined))]
+pub(crate) fn words_of(bytes: &[u8]) -> Option<&[Word]>
+    ensures { MatchOption result (0 < length bytes.now % WORD_BYTES) (λ words. InWords bytes.now words.now) }
 {
-    if bytes.len() / WORD_BYTES <= i {
-        return None;
+    match bytes.as_chunks::<WORD_BYTES>() {
+        (words, []) => Some(words),
+        _ => None,
     }
-    Some(word_at(bytes, i))
 }
 
-pub(crate) fn rect_at(bytes: &[u8], i: usize) -> Rect
-    requires { WORD_BYTES * (i + 4) ≤ length bytes.now }
-    ensures { result ≡ rect_at bytes.now i }
+// Word `i`, if there is one.
+#[tactic(auto, using(crate::proofs::Reading::word_of))]
+pub(crate) fn word_at(words: &[Word], i: usize) -> Option<u32>
+    ensures { MatchOption result (length words.now ≤ i) (λ word. (i < length words.now) × (word ≡ word_at (concat words.now) i)) }
 {
-    Rect::from([
-        word_at(bytes, i),
-        word_at(bytes, i + 1),
-        word_at(bytes, i + 2),
-        word_at(bytes, i + 3),
-    ])
+    let word = words.get(i)?;
+    Some(u32::from_le_bytes(*word))
 }
 
-#[tactic(auto, using(crate::proofs::Reading::clause_of))]
-fn clause_at(bytes: &[u8], i: usize) -> u64
-    requires { WORD_BYTES * (i + CLAUSE_WORDS) ≤ length bytes.now }
-    ensures { result ≡ clause_at bytes.now i }
+// The `N` words from word `i` on.
+pub(crate) fn words_at<const N: usize>(words: &[Word], i: usize) -> [u32; N]
+    requires { i + N ≤ length words.now }
+    ensures { (k : ℕ) → k < N → get_or result k 0 ≡ word_at (concat words.now) (i + k) }
 {
-    let at = WORD_BYTES * i;
-    u64::from_le_bytes(*bytes[at..].first_chunk().unwrap())
+    array::from_fn(|k| u32::from_le_bytes(words[i + k]))
 }
 
-// The clauses from word `at` on, of which there are `count`, but one more than a query may have at the most.
-#[tactic(auto, using(crate::proofs::Reading::no_clause, crate::proofs::Reading::clause_more))]
-pub(crate) fn clauses_at(bytes: &[u8], at: usize, count: u32) -> ArrayVec<u64, CLAUSES_READ>
-    requires { WORD_BYTES * (at + CLAUSE_WORDS * count) ≤ length bytes.now }
-    ensures { result.items ≡ clauses_at bytes.now at (min count CLAUSES_READ) }
+// The clauses from word `i` on, each as its words.
+pub(crate) fn clauses_at(words: &[Word], i: usize, count: usize) -> &[[Word; CLAUSE_WORDS]]
+    requires { i + CLAUSE_WORDS * count ≤ length words.now }
+    ensures { map clause_in result.now ≡ clauses_at (concat words.now) i count }
 {
-    let mut clauses = ArrayVec::new();
-    for i in 0..CLAUSES_READ.min(count as usize) {
-        clauses.push(clause_at(bytes, at + CLAUSE_WORDS * i));
-    }
+    let (clauses, _) = words[i..i + CLAUSE_WORDS * count].as_chunks();
     clauses
+}
+
+// A clause of its low word and its high word.
+fn clause_in(words: &[Word; CLAUSE_WORDS]) -> u64
+    ensures { result ≡ clause_in words.now }
+{
+    let &[[a, b, c, d], [e, f, g, h]] = words;
+    u64::from_le_bytes([a, b, c, d, e, f, g, h])
+}
+
+// The first clauses: as many as a query may have, and one more.
+pub(crate) fn first_clauses(clauses: &[[Word; CLAUSE_WORDS]]) -> ArrayVec<u64, CLAUSES_READ>
+    ensures { result.items ≡ map clause_in (take CLAUSES_READ clauses.now) }
+{
+    let mut read = ArrayVec::new();
+    for words in clauses.iter().take(CLAUSES_READ) {
+        read.push(clause_in(words));
+    }
+    read
 }

@@ -13,8 +13,8 @@ use Rattle.std.proofs.Math.Seq.{take-append-add}
 use Rattle.std.specs.Result.{result_unwrap_or}
 use borrow.Rule.Slice.PartMut.{put_mid}
 use Rattle.std.specs.declared.option.Option.{Option}
-use Rattle.std.specs.Io.KnownBytes.{append_known, Appends, Consumes, IsAtEnd, Keeps}
-use Rattle.std.proofs.KnownBytes.{Appends-trans, append_known-grown, Keeps-refl}
+use Rattle.std.specs.Io.KnownBytes.{Appends, Consumes, IsAtEnd, Keeps}
+use Rattle.std.proofs.KnownBytes.{Appends-nil, Appends-trans, append_known-grown}
 use Rattle.job.specs.Sizes.{JOB_BYTES, LINE_BYTES}
 use Rattle.job.specs.Output.{bad_job}
 use Rattle.job.specs.Words.{piece_count, query_count, well_formed, output}
@@ -24,7 +24,9 @@ use Rattle.job.proofs.Claimed.{claimed}
 use Rattle.job.proofs.Places.{too_long}
 use Rattle.job.proofs.Tables.{first-table}
 use Rattle.job_io.specs.Gathered.{kept, held, held_pieces, held_queries, held_at_end, Gathered}
+use Rattle.job_io.specs.declared.Output.{Output}
 use Rattle.job_io.specs.Printed.{Printed}
+use Rattle.job_io.specs.Prints.{Prints}
 
 -- the buffer before the next line
 kept_tests : (size : ℕ) (before : List ℕ) → kept size before ≡ cond (leb (length before + LINE_BYTES) size) before []
@@ -70,12 +72,40 @@ pub ruleset piece_laws = (no_line, no_piece, line_more, pieces_held)
 
 pub ruleset query_laws = (no_line, line_more, queries_held)
 
--- one line more for the writer: `before` and `after` are what it got and what is gathered
-pub next-line : (from before mid : Option (List ℕ)) (old new : List ℕ) (f : ℕ → List ℕ) (n : ℕ) → Appends from before (lines_to f n)
-    → Keeps before (append_known mid old) → new ≡ old ++ f n → Appends from (append_known mid new) (lines_to f (n + 1))
-next-line from before mid old new f n so room line =
-    subst (λ k. Appends from (append_known mid new) (lines_to f k)) (sym (add-one n))
-    (Appends-trans from before (append_known mid new) (lines_to f n) (f n) so (append_known-grown before mid old new (f n) room line))
+-- growing by nothing is staying
+kept-by : (old new : Option (List ℕ)) → Appends old new [] → Keeps old new
+kept-by None new e = tt
+kept-by (Some xs) None e = e
+kept-by (Some xs) (Some ys) e = e ∙ append-nil xs
+
+module _ {W : Type 0} (contents : W → Option (List ℕ)) where
+  pub prints-none : (out : Output W) → Prints contents out out []
+  prints-none out = record { same_writer = refl; all = Appends-nil _ }
+
+  prints-both : (a b c : Output W) (front back : List ℕ) → Prints contents a b front → Prints contents b c back → Prints contents a c (front ++ back)
+  prints-both a b c front back f g = record { same_writer = g.same_writer ∙ f.same_writer; all = Appends-trans _ _ _ front back f.all g.all }
+
+  -- one line more, behind what was kept
+  prints-line : (before mid : Output W) (new line : List ℕ) → Prints contents before mid [] → new ≡ mid.lines ++ line → Prints contents before (record { to = mid.to; lines = new }) line
+  prints-line before mid new line room e =
+      record { same_writer = room.same_writer; all = append_known-grown _ _ mid.lines new line (kept-by _ _ room.all) e }
+
+  pub next-line : (from before mid : Output W) (new : List ℕ) (f : ℕ → List ℕ) (n : ℕ) → Prints contents from before (lines_to f n) → Prints contents before mid []
+      → new ≡ mid.lines ++ f n → Prints contents from (record { to = mid.to; lines = new }) (lines_to f (n + 1))
+  next-line from before mid new f n so room line =
+      subst (λ k. Prints contents from (record { to = mid.to; lines = new }) (lines_to f k)) (sym (add-one n))
+      (prints-both from before _ (lines_to f n) (f n) so (prints-line before mid new (f n) room line))
+
+  -- all that is printed in the end is the output
+  pub all-good : (b b' : List ℕ) (before between after : Output W) → b ≡ b' → well_formed b ≡ true → Prints contents before between (lines_to (piece_line_at b) (piece_count b))
+      → Prints contents between after (lines_to (query_line_at b) (query_count b)) → Prints contents before after (output b')
+  all-good b b' before between after e good pieces queries =
+      subst (Prints contents before after) (sym (claimed.in_order b (subst T (sym good) tt)) ∙ ap output e)
+      (prints-both before between after (lines_to (piece_line_at b) (piece_count b)) (lines_to (query_line_at b) (query_count b)) pieces queries)
+
+  pub all-bad : (b : List ℕ) (before : Output W) (new : List ℕ) → well_formed b ≡ false → new ≡ before.lines ++ bad_job → Prints contents before (record { to = before.to; lines = new }) (output b)
+  all-bad b before new bad e =
+      subst (Prints contents before (record { to = before.to; lines = new })) (sym (claimed.bad b bad)) (prints-line before before new bad_job (prints-none before) e)
 
 -- what the buffer holds is the end of the text
 kept-gathered : (size : ℕ) (text before : List ℕ) → Gathered text before → Gathered text (kept size before)
@@ -96,7 +126,9 @@ lines-gathered size text before f g (suc n) =
 
 module _ (size : ℕ) (b : List ℕ) where
   pieces-gathered : Gathered (lines_to (piece_line_at b) (piece_count b)) (held_pieces size b)
-  pieces-gathered = subst (Gathered (lines_to (piece_line_at b) (piece_count b))) (sym (pieces_held size b)) (lines-gathered size [] [] (piece_line_at b) (record { sent = []; whole = refl }) (piece_count b))
+  pieces-gathered =
+      subst (Gathered (lines_to (piece_line_at b) (piece_count b))) (sym (pieces_held size b))
+      (lines-gathered size [] [] (piece_line_at b) (record { sent = []; whole = refl }) (piece_count b))
 
   queries-gathered : T (well_formed b) → Gathered (output b) (held_queries size b)
   queries-gathered good =
@@ -111,19 +143,6 @@ module _ (size : ℕ) (b : List ℕ) where
   pub bad-end : (front : List ℕ) → well_formed b ≡ false → front ≡ bad_job → (front ≡ held_at_end size b) × Gathered (output b) front
   bad-end front bad e =
       (e ∙ sym (held-tests size b ∙ ap (λ t. cond t (held_queries size b) bad_job) bad), record { sent = []; whole = claimed.bad b bad ∙ sym e })
-
--- all that is gathered or written in the end is the output
-pub all-good : (b b' : List ℕ) (before between after : Option (List ℕ)) → b ≡ b' → well_formed b ≡ true → Appends before between (lines_to (piece_line_at b) (piece_count b))
-    → Appends between after (lines_to (query_line_at b) (query_count b)) → Appends before after (output b')
-all-good b b' before between after e good pieces queries =
-    subst (Appends before after) (sym (claimed.in_order b (subst T (sym good) tt)) ∙ ap output e)
-    (Appends-trans before between after (lines_to (piece_line_at b) (piece_count b)) (lines_to (query_line_at b) (query_count b)) pieces queries)
-
-pub all-bad : (b : List ℕ) (writer : Option (List ℕ)) (old new : List ℕ) → well_formed b ≡ false → new ≡ old ++ bad_job
-    → Appends (append_known writer old) (append_known writer new) (output b)
-all-bad b writer old new bad e =
-    subst (Appends (append_known writer old) (append_known writer new)) (sym (claimed.bad b bad))
-    (append_known-grown (append_known writer old) writer old new bad_job (Keeps-refl (append_known writer old)) e)
 
 -- bytes that fill the slice are the front of an input that no job is; fewer are the input
 pub printed : (read : List ℕ) (input left old new : Option (List ℕ)) (failed : Type 0) → Consumes input left read → (length read ≤ JOB_BYTES → IsAtEnd left)
@@ -147,7 +166,8 @@ printed_of (Ok m) n size bytes input left old new failed whole long e within all
     (subst (λ k. Appends old new (output (take k bytes))) e text)
 printed_of (Err x) n size bytes None left old new failed whole long e within all at_end fails text = tt
 printed_of (Err x) n size bytes (Some b) left old new failed whole long e within all at_end fails text =
-    inr (fails, subst (Appends old new) (ap output (ap (λ k. take k bytes) e ∙ take_all size bytes (omega (arith, whole))) ∙ claimed.bad bytes (sym (too_long bytes (omega (arith, whole, long))))) text)
+    let all = ap (λ k. take k bytes) e ∙ take_all size bytes (omega (arith, whole)) in
+    inr (fails, subst (Appends old new) (ap output all ∙ claimed.bad bytes (sym (too_long bytes (omega (arith, whole, long))))) text)
 
 -- a read takes what it gives, behind what was read
 pub take-more : (n more k : ℕ) (bytes rest : List ℕ) → n ≤ length bytes → more ≤ length rest → take (n + more) (put_mid n k bytes rest) ≡ take n bytes ++ take more rest

@@ -1,3 +1,4 @@
 -- The definitions that the contracts of `job_io` cite.
 pub mod Gathered
 pub mod Printed
+pub mod Prints

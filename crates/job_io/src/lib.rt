@@ -1,15 +1,15 @@
 // Running a job: its bytes read from a reader, its output written to a writer.
 #![tactic(auto)]
 
-ghost use Rattle.std.specs.Prelude.{◌≡◌, ◌+◌, ◌≤◌, ◌<◌, [], length, take, ⊤, IfOk, OnOk, OnErr};
+ghost use Rattle.std.specs.Prelude.{◌≡◌, ◌≤◌, ◌<◌, [], length, take, ⊤, IfOk, OnOk, OnErr};
 ghost use Rattle.std.specs.Io.{ReadsAtMost};
-ghost use Rattle.std.specs.Io.KnownBytes.{append_known, Appends, Consumes, Keeps, IsAtEnd, ReadConsumes};
+ghost use Rattle.std.specs.Io.KnownBytes.{Appends, Consumes, IsAtEnd, ReadConsumes};
 ghost use Rattle.pages.specs.Calls.{empty_words};
-ghost use Rattle.job.specs.Sizes.{LINE_BYTES};
 ghost use Rattle.job.specs.Words.{piece_count, query_count, output};
-ghost use Rattle.job.specs.Steps.{table_at, piece_line_at, query_line_at, lines_to};
+ghost use Rattle.job.specs.Steps.{HasRoom, table_at, piece_line_at, query_line_at, lines_to};
 ghost use Rattle.job_io.specs.Gathered.{kept, held_pieces, held_queries, held_at_end, Gathered};
 ghost use Rattle.job_io.specs.Printed.{Printed};
+ghost use Rattle.job_io.specs.Prints.{Prints};
 
 use job::{JOB_BYTES, Job, LINE_BYTES, Lines};
 use pages::{NUMBERS, TABLE_WORDS};
@@ -92,11 +92,9 @@ impl<'a, W: Write> Output<'a, W> {
     // Writes what is gathered where the next line might not fit behind it.
     #[tactic(auto, using(crate::proofs::Gathered::kept_laws))]
     fn make_room(&mut self) -> io::Result<()>
-        ensures same_writer { self.new.to.ghost_name ≡ self.old.to.ghost_name }
-        ensures room { OnOk result (length self.new.lines + LINE_BYTES ≤ BUFFER_BYTES) }
+        ensures room { OnOk result (HasRoom BUFFER_BYTES self.new.lines) }
         ensures front { OnOk result (self.new.lines ≡ kept BUFFER_BYTES self.old.lines) }
-        ensures all { OnOk result (Keeps (append_known (W.contents self.old.to.now) self.old.lines)
-            (append_known (W.contents self.new.to.now) self.new.lines)) }
+        ensures all { OnOk result (Prints W.contents self.old self.new []) }
     {
         if self.lines.room() >= LINE_BYTES {
             return Ok(());
@@ -108,11 +106,10 @@ impl<'a, W: Write> Output<'a, W> {
 #[tactic(auto, using(crate::proofs::Gathered::piece_laws))]
 fn place_pieces<W: Write>(job: &Job, table: &mut [u32], out: &mut Output<W>) -> io::Result<()>
     requires { (table.old ≡ empty_words) × (out.old.lines ≡ []) }
-    ensures same_writer { out.new.to.ghost_name ≡ out.old.to.ghost_name }
     ensures placed { OnOk result (table.new ≡ table_at job.now.bytes.now (piece_count job.now.bytes.now)) }
     ensures held { OnOk result (out.new.lines ≡ held_pieces BUFFER_BYTES job.now.bytes.now) }
-    ensures all { OnOk result (Appends (append_known (W.contents out.old.to.now) out.old.lines)
-        (append_known (W.contents out.new.to.now) out.new.lines) (lines_to (piece_line_at job.now.bytes.now) (piece_count job.now.bytes.now))) }
+    ensures all { OnOk result (Prints W.contents out.old out.new
+        (lines_to (piece_line_at job.now.bytes.now) (piece_count job.now.bytes.now))) }
 {
     for position in 0..job.pieces {
         out.make_room()?;
@@ -125,10 +122,9 @@ fn place_pieces<W: Write>(job: &Job, table: &mut [u32], out: &mut Output<W>) -> 
 fn answer_queries<W: Write>(job: &Job, table: &[u32], out: &mut Output<W>) -> io::Result<()>
     requires { (table.now ≡ table_at job.now.bytes.now (piece_count job.now.bytes.now))
         × (out.old.lines ≡ held_pieces BUFFER_BYTES job.now.bytes.now) }
-    ensures same_writer { out.new.to.ghost_name ≡ out.old.to.ghost_name }
     ensures held { OnOk result (out.new.lines ≡ held_queries BUFFER_BYTES job.now.bytes.now) }
-    ensures all { OnOk result (Appends (append_known (W.contents out.old.to.now) out.old.lines)
-        (append_known (W.contents out.new.to.now) out.new.lines) (lines_to (query_line_at job.now.bytes.now) (query_count job.now.bytes.now))) }
+    ensures all { OnOk result (Prints W.contents out.old out.new
+        (lines_to (query_line_at job.now.bytes.now) (query_count job.now.bytes.now))) }
 {
     let mut answer = [0u16; NUMBERS];
     for query in job.queries() {
@@ -141,10 +137,8 @@ fn answer_queries<W: Write>(job: &Job, table: &[u32], out: &mut Output<W>) -> io
 // Gathers the lines of a job, one behind the other. What is gathered at the end is still to be written.
 fn answer_job<W: Write>(bytes: &[u8], out: &mut Output<W>) -> io::Result<()>
     requires { out.old.lines ≡ [] }
-    ensures same_writer { out.new.to.ghost_name ≡ out.old.to.ghost_name }
     ensures gathered { OnOk result ((out.new.lines ≡ held_at_end BUFFER_BYTES bytes.now) × Gathered (output bytes.now) out.new.lines) }
-    ensures all { OnOk result (Appends (append_known (W.contents out.old.to.now) out.old.lines)
-        (append_known (W.contents out.new.to.now) out.new.lines) (output bytes.now)) }
+    ensures all { OnOk result (Prints W.contents out.old out.new (output bytes.now)) }
 {
     let Some(job) = Job::read(bytes) else {
         out.lines.bad_job();

@@ -11,7 +11,7 @@ returns-in_default-clause-gathered g c =
     bad-end BUFFER_BYTES c.args.bytes.now c.bad_job.new.self (sym c.in_default.ensures.some) (c.bad_job.ensures.bytes ∙ ap (λ l. l ++ bad_job) c.requires)
 
 pub returns-in_default-clause-all : goal.returns-in_default-clause-all
-returns-in_default-clause-all g c = all-bad c.args.bytes.now _ _ _ (sym c.in_default.ensures.some) c.bad_job.ensures.bytes
+returns-in_default-clause-all g c = all-bad g.W.Write.contents c.args.bytes.now _ _ (sym c.in_default.ensures.some) c.bad_job.ensures.bytes
 
 pub returns-clause-gathered : goal.returns-clause-gathered
 returns-clause-gathered g c = let job = c.in-Some.job in
@@ -19,4 +19,6 @@ returns-clause-gathered g c = let job = c.in-Some.job in
 
 pub returns-clause-all : goal.returns-clause-all
 returns-clause-all g c = let job = c.in-Some.job in
-    IfOk-weaker c.answer_queries.result _ _ (λ _ h. all-good job.bytes.now c.args.bytes.now _ _ _ c.in-Some.ensures.same job.whole c.in_ok-place_pieces.ensures.all h) c.answer_queries.ensures.all
+    IfOk-weaker c.answer_queries.result _ _
+    (λ _ h. all-good g.W.Write.contents job.bytes.now c.args.bytes.now _ _ _ c.in-Some.ensures.same job.whole c.in_ok-place_pieces.ensures.all h)
+    c.answer_queries.ensures.all

@@ -7,4 +7,6 @@ use Rattle.job_io.proofs.run.Goals as goal
 pub returns : goal.returns
 returns g c =
     let read = c.read_all.ensures in
-    IfOk-weaker c.print_job.result _ _ (λ _ text. printed_of c.read_all.result _ _ c.read_all.new.bytes _ _ _ _ _ c.read_all.auto.bytes (omega arith) c.unwrap_or-n.ensures read.within read.read read.end read.failure text) c.print_job.ensures
+    IfOk-weaker c.print_job.result _ _
+    (λ _ text. printed_of c.read_all.result _ _ c.read_all.new.bytes _ _ _ _ _ c.read_all.auto.bytes (omega arith) c.unwrap_or-n.ensures read.within read.read read.end read.failure text)
+    c.print_job.ensures

@@ -2,24 +2,30 @@
 use Rattle.std.proofs.Common.{rules, arith, ◌∙◌, length-append}
 use Rattle.refusals.specs.Numbers.{number_of}
 use Rattle.job.proofs.Decimal.{word_short}
-use Rattle.job.proofs.Writing.{refused_behind}
+use Rattle.job.proofs.Writing.{two_short, refused_short, refused_behind}
 use Rattle.job.proofs.lines.Lines.refused.Goals as goal
 
 pub byte-requires : goal.byte-requires
-byte-requires g c = let at = c.args in (search rules, omega (arith, word_short at.position c.ranges.position.fits))
+byte-requires g c = (search rules, omega arith)
 
 pub field-requires : goal.field-requires
 field-requires g c = let at = c.args in (search rules, rw (c.byte.ensures, length-append) (omega (arith, word_short at.position c.ranges.position.fits)))
 
 pub field-requires-2 : goal.field-requires-2
-field-requires-2 g c = let at = c.args in (search rules, rw (c.field.ensures, c.byte.ensures, length-append, length-append) (omega (arith, word_short at.position c.ranges.position.fits, word_short c.number.result (search rules))))
+field-requires-2 g c =
+    let short = two_short c.args.position c.number.result c.ranges.position.fits (search rules) in
+    (search rules, rw (c.field.ensures, c.byte.ensures, length-append, length-append) (omega (arith, short)))
 
 pub byte-requires-2 : goal.byte-requires-2
-byte-requires-2 g c = let at = c.args in (search rules, rw (c.field-2.ensures, c.field.ensures, c.byte.ensures, length-append, length-append, length-append) (omega (arith, word_short at.position c.ranges.position.fits, word_short c.number.result (search rules))))
+byte-requires-2 g c =
+    let short = two_short c.args.position c.number.result c.ranges.position.fits (search rules) in
+    (search rules, rw (c.field-2.ensures, c.field.ensures, c.byte.ensures, length-append, length-append, length-append) (omega (arith, short)))
 
-pub returns-clause-most : goal.returns-clause-most
-returns-clause-most g c = let at = c.args in rw (c.byte-2.ensures, c.field-2.ensures, c.field.ensures, c.byte.ensures, length-append, length-append, length-append, length-append) (omega (arith, word_short at.position c.ranges.position.fits, word_short c.number.result (search rules)))
-
-pub returns-clause-bytes : goal.returns-clause-bytes
-returns-clause-bytes g c =
-    c.byte-2.ensures ∙ rw (c.field-2.ensures, c.number.ensures.number, c.field.ensures, c.byte.ensures) (refused_behind c.args.self.now c.args.letter c.args.position (number_of c.args.refusal))
+pub returns : goal.returns
+returns g c =
+    let at = c.args in
+    let number = c.number.ensures.number in
+    record {
+      bytes = c.byte-2.ensures ∙ rw (c.field-2.ensures, number, c.field.ensures, c.byte.ensures) (refused_behind at.self.now at.letter at.position (number_of at.refusal));
+      most = rw number at (refused_short at.letter at.position c.number.result c.ranges.position.fits (search rules));
+    }
