@@ -15,7 +15,7 @@ ghost use Rattle.job.specs.Steps.{InWords, HasRoom, Gathers, table_at, piece_lin
 
 use history::CALL_WORDS;
 pub use lines::{LINE_BYTES, Lines};
-use pages::Rect;
+use pages::Piece;
 pub use queries::{Queries, Query};
 use relations::CLAUSES;
 use words::{Word, word_at, words_at, words_of};
@@ -96,15 +96,13 @@ impl<'a> Job<'a> {
         })
     }
 
-    // The number and the rectangle of a piece.
-    fn piece_at(&self, position: u32) -> (u32, Rect)
+    fn piece_at(&self, position: u32) -> Piece
         requires { position < self.now.pieces }
-        ensures number { result.0 ≡ (piece_at self.now.bytes.now position).number }
-        ensures rect { result.1 ≡ (piece_at self.now.bytes.now position).rect }
+        ensures number { result.number ≡ (piece_at self.now.bytes.now position).number }
+        ensures rect { result.rect ≡ (piece_at self.now.bytes.now position).rect }
     {
         let at = 1 + CALL_WORDS * position as usize;
-        let [number, x1, y1, x2, y2] = words_at::<CALL_WORDS>(self.words, at);
-        (number, Rect { x1, y1, x2, y2 })
+        Piece::from(words_at::<CALL_WORDS>(self.words, at))
     }
 
     /// Places a piece, and gathers its line, if it is refused.
@@ -118,8 +116,7 @@ impl<'a> Job<'a> {
         ensures line { Gathers lines.old lines.new (piece_line_at self.now.bytes.now position) }
         ensures table { table.new ≡ table_at self.now.bytes.now (position + 1) }
     {
-        let (number, rect) = self.piece_at(position);
-        let placed = placing::place_sound(table, number, rect);
+        let placed = placing::place_sound(table, self.piece_at(position));
         lines.piece(position, placed);
     }
 }

@@ -1,5 +1,6 @@
 -- The piece's words lie within the job.
-use Rattle.std.proofs.Common.{arith, refl, ◌+◌}
+use Rattle.std.proofs.Common.{arith, refl, ap, ◌∙◌, ◌+◌}
+use Rattle.pages.specs.declared.piece.Piece.{Piece}
 use Rattle.history.specs.Replay.{CALL_WORDS}
 use Rattle.job.specs.Words.{piece_start}
 use Rattle.job.proofs.Reading.{read_from, rect-is}
@@ -14,13 +15,13 @@ words_at-requires c =
 pub returns-clause-number : goal.returns-clause-number
 returns-clause-number c =
     let at = piece_start c.args.position in
-    read_from _ _ c.words_at.result CALL_WORDS at c.args.self.now.cut c.words_at.ensures 0 at (omega arith) (omega arith)
+    ap (λ (p : Piece). p.number) c.from.ensures ∙ read_from _ _ c.words_at.result CALL_WORDS at c.args.self.now.cut c.words_at.ensures 0 at (omega arith) (omega arith)
 
 pub returns-clause-rect : goal.returns-clause-rect
 returns-clause-rect c =
     let at = piece_start c.args.position in
     let word = read_from _ _ c.words_at.result CALL_WORDS at c.args.self.now.cut c.words_at.ensures in
-    rect-is _ _ _ _ _ _ _ _
+    ap (λ (p : Piece). p.rect) c.from.ensures ∙ rect-is _ _ _ _ _ _ _ _
     (word 1 (at + 1) (omega arith) refl)
     (word 2 (at + 1 + 1) (omega arith) (omega arith))
     (word 3 (at + 1 + 2) (omega arith) (omega arith))

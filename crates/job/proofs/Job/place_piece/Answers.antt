@@ -10,11 +10,11 @@ place_sound-placed-requires g c = let F = fine_of c.args.table.now c.args.self.n
 
 pub returns-clause-line : goal.returns-clause-line
 returns-clause-line g c =
-    let piece = c.piece_at-number.ensures in
+    let piece = c.piece_at.ensures in
     subst (Gathers c.args.lines.now _) (piece-placed c.args.self.now.bytes.now c.args.position _ _ _ _ _ c.requires.1 piece.number piece.rect c.place_sound-placed.ensures)
     c.piece.ensures
 
 pub returns-clause-table : goal.returns-clause-table
 returns-clause-table g c =
-    let piece = c.piece_at-number.ensures in
+    let piece = c.piece_at.ensures in
     table-placed c.args.self.now.bytes.now c.args.position _ _ _ _ _ c.requires.1 piece.number piece.rect c.place_sound-placed.ensures

@@ -1,7 +1,7 @@
 -- Each call reads one word.
 use Rattle.std.proofs.Common.{rules, arith, [], ◌+◌, get_or, ◌∙◌}
 use Rattle.std.specs.Int.{w32, from_le_bytes}
-use Rattle.placing.proofs.Arrays.{made}
+use Rattle.pages.proofs.Arrays.{made}
 use Rattle.job.proofs.Reading.{word_of}
 use Rattle.job.proofs.words.words_at.Goals as goal
 
