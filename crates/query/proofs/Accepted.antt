@@ -46,7 +46,8 @@ unfolding query_call query_sound
 good-call w q clauses answer e = go (ltb (length w) TABLE_WORDS) refl (sound w) refl (sound_refusal q clauses (length answer) (table_in w).count) refl e
   where
     go : (a : Bool) → ltb (length w) TABLE_WORDS ≡ a → (b : Bool) → sound w ≡ b → (r : ℕ) → sound_refusal q clauses (length answer) (table_in w).count ≡ r
-        → (cond {A = Answer × List ℕ} a (no_answer TABLE_TOO_SHORT, answer) (cond b (cond (eqb r ACCEPTED) (query_answer w q clauses answer) (no_answer r, answer)) (no_answer TABLE_NOT_SOUND, answer))).0.refusal ≡ ACCEPTED
+        → (cond {A = Answer × List ℕ} a (no_answer TABLE_TOO_SHORT, answer)
+        (cond b (cond (eqb r ACCEPTED) (query_answer w q clauses answer) (no_answer r, answer)) (no_answer TABLE_NOT_SOUND, answer))).0.refusal ≡ ACCEPTED
         → Good w q clauses (length answer)
     go true s b h r z k = absurd (omega arith)
     go false s false h r z k = absurd (omega arith)

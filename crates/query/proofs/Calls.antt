@@ -17,7 +17,7 @@ use Rattle.pages.specs.Sizes.{PAGES, PIECES}
 use Rattle.pages.specs.Rectangles.{valid}
 use Rattle.pages.specs.Refusals.{ACCEPTED, RECTANGLE_NOT_VALID, ANSWER_TOO_SHORT}
 use Rattle.pages.specs.Lists.{concat_map}
-use Rattle.pages.specs.Layout.{table_in}
+use Rattle.pages.specs.Layout.{Table, table_in}
 use Rattle.pages.specs.Sound.{sound}
 use Rattle.pages.proofs.Lists.{true-T, T_true}
 use Rattle.pages.proofs.Whole.{sound-in}
@@ -94,8 +94,8 @@ module _ (w : List ℕ) (q : Rect) (clauses o : List ℕ) where
   unfolding opened_listed opened_sound
   opened-refused r n e = rw (← e, ne_eqb r 0 n, ne_eqb r 0 n)
 
-  pub opened-accepted : (p : ℕ) (l o' : List ℕ) → 0 ≡ sound_refusal q clauses (length o) (length (table_in w).pages) → l ≡ query_opened w q clauses → p ≡ length l → length l ≤ length o → o' ≡ sets o 0 l
-      → ◌≡◌ {A = Opened × List ℕ} (record { refusal = ACCEPTED; count = p }, o') (opened_listed w q clauses o)
+  pub opened-accepted : (p : ℕ) (l o' : List ℕ) → 0 ≡ sound_refusal q clauses (length o) (length (table_in w).pages) → l ≡ query_opened w q clauses
+      → p ≡ length l → length l ≤ length o → o' ≡ sets o 0 l → ◌≡◌ {A = Opened × List ℕ} (record { refusal = ACCEPTED; count = p }, o') (opened_listed w q clauses o)
   unfolding opened_listed opened_sound
   opened-accepted p l o' e a c k s = rw (← e, ← a, c, s, sets-front o l k)
 
@@ -139,7 +139,8 @@ module _ {w : List ℕ} {q : Rect} {clauses : List ℕ} {s : Search} (search : S
   unfolding query_listing
   listed-is m e =
       let v : T (valid q) = subst (λ x. T (valid x)) search.reference s.reference.holds in
-      ap marked_numbers (e ∙ ap (marked no_marks) (ap₂ (λ f g. concat_map (hits_on f (table_of s)) (opened_pages g (table_of s))) admits-is opens-is ∙ ap (λ x. concat_map (hits_on (admits_rect clauses q) (table_in x)) (opened_pages (opens clauses q) (table_in x))) search.table))
+      let hits : (Rect → Bool) → (Rect → Bool) → Table → List ℕ = λ f g x. concat_map (hits_on f x) (opened_pages g x) in
+      ap marked_numbers (e ∙ ap (marked no_marks) (ap₂ (λ f g. hits f g (table_of s)) admits-is opens-is ∙ ap (λ x. hits (admits_rect clauses q) (opens clauses q) (table_in x)) search.table))
       ∙ found (table_in w) (sound-in w holds) (admits_rect clauses q) (opens clauses q) (reaches clauses q (proper q v))
 
   -- what the marks of its walk list

@@ -28,14 +28,16 @@ module _ (p : Rect) (s : Small p) (from to : ℕ) (r : Roomy from to) where
       let e : paired_of p.x1 p.y1 + from ≡ paired_of (p.x1 + from % HALF) (p.y1 + from / HALF) = omega arith in
       ap over e
       ∙ over-halves (p.x1 + from % HALF) (p.y1 + from / HALF) (omega (arith, s.x-start, r.x-start))
-      ∙ ap₂ ◌||◌ (same-order TOP (p.y1 + from / HALF) _ p.y1 (λ k. omega (arith, r.y-start)) (λ k. omega (arith, r.y-start))) (same-order TOP (p.x1 + from % HALF) _ p.x1 (λ k. omega (arith, r.x-start)) (λ k. omega (arith, r.x-start)))
+      ∙ ap₂ ◌||◌ (same-order TOP (p.y1 + from / HALF) _ p.y1 (λ k. omega (arith, r.y-start)) (λ k. omega (arith, r.y-start)))
+      (same-order TOP (p.x1 + from % HALF) _ p.x1 (λ k. omega (arith, r.x-start)) (λ k. omega (arith, r.x-start)))
 
   ends : over (to - paired_of p.x2 p.y2) ≡ (ltb p.y2 (to / HALF - MOST) || ltb p.x2 (to % HALF - MOST))
   ends =
       let e : to - paired_of p.x2 p.y2 ≡ paired_of (to % HALF - p.x2) (to / HALF - p.y2) = omega (arith, s.x-end, s.y-end, r.x-end, r.y-end) in
       ap over e
       ∙ over-halves (to % HALF - p.x2) (to / HALF - p.y2) (omega (arith, r.x-most))
-      ∙ ap₂ ◌||◌ (same-order TOP (to / HALF - p.y2) _ (to / HALF - MOST) (λ k. omega (arith, r.y-end)) (λ k. omega (arith, r.y-end))) (same-order TOP (to % HALF - p.x2) _ (to % HALF - MOST) (λ k. omega (arith, r.x-end)) (λ k. omega (arith, r.x-end)))
+      ∙ ap₂ ◌||◌ (same-order TOP (to / HALF - p.y2) _ (to / HALF - MOST) (λ k. omega (arith, r.y-end)) (λ k. omega (arith, r.y-end)))
+      (same-order TOP (to % HALF - p.x2) _ (to % HALF - MOST) (λ k. omega (arith, r.x-end)) (λ k. omega (arith, r.x-end)))
 
   pub beyond-paired : (over (paired_of p.x1 p.y1 + from) || over (to - paired_of p.x2 p.y2)) ≡ beyond (window_in from to) p
   unfolding beyond window_in

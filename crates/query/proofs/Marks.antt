@@ -176,29 +176,29 @@ ones-low b (suc k) m n h =
     rw e (ap (λ x. cond (bit n 0) (b ∷ []) [] ++ x) (ones-low (suc b) k m (n / 2) (omega (arith, pow-suc 2 k))))
 
 -- what is still to be written, from place `next` on, makes the whole
-pub record Writing (all rest : List ℕ) (next at : ℕ) (o₀ o : List ℕ) : Type 0 where
-  pub count : next + length rest ≡ at + length all
-  pub words : sets o next rest ≡ sets o₀ at all
+pub record Writing (all rest : List ℕ) (next : ℕ) (o₀ o : List ℕ) : Type 0 where
+  pub count : next + length rest ≡ length all
+  pub words : sets o next rest ≡ sets o₀ 0 all
   pub size : length o ≡ length o₀
 
-pub writing-all : (all rest : List ℕ) (at : ℕ) (o : List ℕ) → rest ≡ all → Writing all rest at at o o
-writing-all all rest at o e = record { count = ap (λ x. at + length x) e; words = ap (sets o at) e; size = refl }
+pub writing-all : (all rest o : List ℕ) → rest ≡ all → Writing all rest 0 o o
+writing-all all rest o e = record { count = omega (arith, ap length e); words = ap (sets o 0) e; size = refl }
 
 -- one list of what is left is written
-pub writing-more : (all rest xs ys : List ℕ) (next at : ℕ) (o₀ o o' : List ℕ) (r : ℕ) → Writing all rest next at o₀ o → rest ≡ xs ++ ys → r ≡ next + length xs → o' ≡ sets o next xs
-    → Writing all ys r at o₀ o'
-writing-more all rest xs ys next at o₀ o o' r w e n h = record {
+pub writing-more : (all rest xs ys : List ℕ) (next : ℕ) (o₀ o o' : List ℕ) (r : ℕ) → Writing all rest next o₀ o → rest ≡ xs ++ ys → r ≡ next + length xs → o' ≡ sets o next xs
+    → Writing all ys r o₀ o'
+writing-more all rest xs ys next o₀ o o' r w e n h = record {
   count = omega (arith, w.count, ap length e, length-append xs ys);
   words = rw (h, n) (sym (sets-append o next xs ys) ∙ (ap (sets o next) (sym e) ∙ w.words));
   size = ap length h ∙ (simp length-sets w.size);
 }
 
-pub writing-end : (all rest : List ℕ) (next at : ℕ) (o₀ o : List ℕ) → Writing all rest next at o₀ o → rest ≡ [] → (next ≡ at + length all) × (o ≡ sets o₀ at all)
-writing-end all rest next at o₀ o w e = (omega (arith, w.count, ap length e), ap (sets o next) (sym e) ∙ w.words)
+pub writing-end : (all rest : List ℕ) (next : ℕ) (o₀ o : List ℕ) → Writing all rest next o₀ o → rest ≡ [] → (next ≡ length all) × (o ≡ sets o₀ 0 all)
+writing-end all rest next o₀ o w e = (omega (arith, w.count, ap length e), ap (sets o next) (sym e) ∙ w.words)
 
 -- what is left has room
-pub writing-room : (all rest xs ys : List ℕ) (next at : ℕ) (o₀ o : List ℕ) → Writing all rest next at o₀ o → rest ≡ xs ++ ys → next + length xs ≤ at + length all
-writing-room all rest xs ys next at o₀ o w e = omega (arith, w.count, ap length e, length-append xs ys)
+pub writing-room : (all rest xs ys : List ℕ) (next : ℕ) (o₀ o : List ℕ) → Writing all rest next o₀ o → rest ≡ xs ++ ys → next + length xs ≤ length all
+writing-room all rest xs ys next o₀ o w e = omega (arith, w.count, ap length e, length-append xs ys)
 
 -- the places that are left of word w, each below 64, and its numbers
 abbrev pub numbers_at : ℕ → List ℕ → List ℕ

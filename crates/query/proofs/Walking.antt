@@ -26,7 +26,8 @@ pub marking-step : (admit : Rect → Bool) (es rest : List Entry) (e : Entry) (m
     → marked m' (concat_map (admitted_r admit) rest) ≡ marked m (concat_map (admitted_r admit) es)
 unfolding marked
 marking-step admit es rest e m m' hit s y q =
-    ap (λ x. marked x (concat_map (admitted_r admit) rest)) q ∙ (go hit ∙ ap (λ x. marked m (cond x (e.r ∷ []) [] ++ concat_map (admitted_r admit) rest)) y ∙ ap (λ x. marked m (concat_map (admitted_r admit) x)) (sym s))
+    ap (λ x. marked x (concat_map (admitted_r admit) rest)) q
+    ∙ (go hit ∙ ap (λ x. marked m (cond x (e.r ∷ []) [] ++ concat_map (admitted_r admit) rest)) y ∙ ap (λ x. marked m (concat_map (admitted_r admit) x)) (sym s))
   where
     go : (b : Bool) → marked (cond b (with_mark m e.r) m) (concat_map (admitted_r admit) rest) ≡ marked m (cond b (e.r ∷ []) [] ++ concat_map (admitted_r admit) rest)
     go true = refl
@@ -64,7 +65,8 @@ module _ {V : Type 0} (R : V → ℕ → ℕ → V → Type 0) where
       (a.0, a.1, VisitsAll-append ps qs a.0 v w (suc n) a.2 (rw e at b))
 
 -- pieces marked page by page, numbers written one after the other
-pub pieces-marked : (admit : Rect → Bool) (t : Table) (ps : List ℕ) (u v : List ℕ) (n : ℕ) → VisitsAll (λ x k p y. y ≡ marked x (hits_on admit t p)) u n ps v → v ≡ marked u (concat_map (hits_on admit t) ps)
+pub pieces-marked : (admit : Rect → Bool) (t : Table) (ps : List ℕ) (u v : List ℕ) (n : ℕ)
+    → VisitsAll (λ x k p y. y ≡ marked x (hits_on admit t p)) u n ps v → v ≡ marked u (concat_map (hits_on admit t) ps)
 unfolding VisitsAll marked
 pieces-marked admit t [] u v n a = a
 pieces-marked admit t (p ∷ ps) u v n a =

@@ -45,20 +45,20 @@ impl Marks {
         self.named |= 1 << at;
     }
 
-    // Writes the numbers that word w marks, from place `at` on, and gives the place behind them.
-    fn list_word(&self, w: usize, answer: &mut [u16], at: usize) -> usize
+    // Writes the numbers that word w marks, and gives how many they are.
+    fn list_word(&self, w: usize, answer: &mut [u16]) -> usize
         requires word { w < MARK_WORDS }
-        requires room { at + length (numbers_in self.now w) ≤ length answer.old }
-        ensures count { result ≡ at + length (numbers_in self.now w) }
-        ensures words { answer.new ≡ sets answer.old at (numbers_in self.now w) }
+        requires room { length (numbers_in self.now w) ≤ length answer.old }
+        ensures count { result ≡ length (numbers_in self.now w) }
+        ensures words { answer.new ≡ sets answer.old 0 (numbers_in self.now w) }
     {
         let base = MARK_BITS as usize * w;
-        let mut next = at;
+        let mut count = 0;
         for place in SetBits::new(self.words[w]) {
-            answer[next] = (base + place as usize) as u16;
-            next += 1;
+            answer[count] = (base + place as usize) as u16;
+            count += 1;
         }
-        next
+        count
     }
 
     /// Writes the marked numbers, rising, and gives how many they are.
@@ -69,7 +69,7 @@ impl Marks {
     {
         let mut next = 0;
         for w in SetBits::new(self.named) {
-            next = self.list_word(w as usize, answer, next);
+            next += self.list_word(w as usize, &mut answer[next..]);
         }
         next
     }

@@ -3,8 +3,5 @@ use Rattle.std.proofs.Common.{arith}
 use Rattle.soundness.proofs.Decides.{rooted}
 use Rattle.soundness.proofs.is_sound.Goals as goal
 
-pub page_of-requires : goal.page_of-requires
-page_of-requires c = (c.requires, omega arith)
-
 pub is_sound_from-requires : goal.is_sound_from-requires
 is_sound_from-requires c = rooted _ c.requires _ (omega arith) (omega arith) c.page_of.ensures (omega arith)

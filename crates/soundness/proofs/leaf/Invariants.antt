@@ -1,7 +1,15 @@
 use Rattle.std.proofs.Common.{List, Bool}
+use Rattle.pages.specs.declared.Entry.{Entry}
+use Rattle.pages.specs.Sizes.{PIECES}
+use Rattle.pages.specs.Lists.{sum, Every}
 use Rattle.pages.specs.Left.{left}
-use Rattle.soundness.proofs.Leaves.{Pieces}
+use Rattle.pages.specs.Sound.{is}
+use Rattle.soundness.specs.Steps.{Piece, Tested}
 use Rattle.soundness.proofs.leaf.Given as goal
+
+-- a test of all the entries
+abbrev pub Pieces : List Entry → List Bool → Bool → List Bool → Type 0
+Pieces es g r g' = Tested PIECES (Every Piece es) (λ c. sum (is c) es) g r g'
 
 -- what the entries left come to decides of them all
 abbrev pub invariant-loop-e : goal.invariant-loop-e

@@ -6,6 +6,6 @@ use Rattle.query.proofs.marking.Marks.list.Given as goal
 
 abbrev pub invariant-loop-w : goal.invariant-loop-w
 invariant-loop-w l = record {
-  writing : Writing (marked_numbers l.self) (concat_map (numbers_in l.self) l.w-iterator) l.next 0 l.initial.answer l.answer;
+  writing : Writing (marked_numbers l.self) (concat_map (numbers_in l.self) l.w-iterator) l.next l.initial.answer l.answer;
   below : Every (λ w. w < MARK_WORDS) l.w-iterator;
 }

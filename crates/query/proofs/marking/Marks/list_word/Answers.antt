@@ -12,7 +12,7 @@ pub loop-place-init : goal.loop-place-init
 loop-place-init c =
     let w = c.args.w in
     let e = c.into_iter-place-iterator.ensures.into_iter_gives ∙ c.new-place-items.ensures ∙ ap (λ m. ones_from 0 64 (get_or m w 0)) c.self.view_is in record {
-      writing = writing-all _ _ _ _ (ap (numbers_at w) e ∙ word-numbers _ w);
+      writing = writing-all _ _ _ (ap (numbers_at w) e ∙ word-numbers _ w);
       below = subst (Every (λ j. j < 64)) (sym e) (places-below _);
     }
 
@@ -20,6 +20,6 @@ pub loop-place-preserved : goal.loop-place-preserved
 loop-place-preserved c =
     let i = c.loop-place.invariant in
     let s = c.in-Some.ensures.steps in record {
-      writing = writing-more _ _ ((64 * c.args.w + c.in-Some.place) ∷ []) _ _ _ _ _ _ _ i.writing (ap (numbers_at c.args.w) s) refl refl;
+      writing = writing-more _ _ ((64 * c.args.w + c.in-Some.place) ∷ []) _ _ _ _ _ _ i.writing (ap (numbers_at c.args.w) s) refl refl;
       below = (subst (Every (λ j. j < 64)) s i.below).1;
     }

@@ -61,4 +61,5 @@ unfolding marked
 returns c =
     let s = c.args.self.now in
     let l = c.loop-e in
-    ap (λ es. marked l.marks (concat_map (admitted_r (admits_in s)) es)) (sym c.in-None.ensures.steps.0) ∙ (l.invariant.marks ∙ ap (marked c.args.marks.now) (sym (hits-leaf (admits_in s) (table_of s) c.args.p c.requires.level)))
+    ap (λ es. marked l.marks (concat_map (admitted_r (admits_in s)) es)) (sym c.in-None.ensures.steps.0)
+    ∙ (l.invariant.marks ∙ ap (marked c.args.marks.now) (sym (hits-leaf (admits_in s) (table_of s) c.args.p c.requires.level)))

@@ -31,8 +31,9 @@ loop-e-preserved-then-not-is_beyond c =
     let s = c.args.self.now in
     let l = c.loop-e in
     let steps = c.in-Some.ensures.steps in
-    let each = subst (Every (λ x. Small x.rect × (x.r < PIECES))) steps l.invariant.each in record {
-      marks = marking-step (admits_in s) _ _ c.in-Some.e l.marks _ true steps (whole-decides _ _ _ s.leaves _ each.0.0 false (sym c.if-not-is_beyond.true ∙ c.is_beyond.ensures) c.requires.whole) c.mark.ensures ∙ l.invariant.marks;
+    let each = subst (Every (λ x. Small x.rect × (x.r < PIECES))) steps l.invariant.each in
+    let admitted = whole-decides _ _ _ s.leaves _ each.0.0 false (sym c.if-not-is_beyond.true ∙ c.is_beyond.ensures) c.requires.whole in record {
+      marks = marking-step (admits_in s) _ _ c.in-Some.e l.marks _ true steps admitted c.mark.ensures ∙ l.invariant.marks;
       each = each.1;
     }
 
@@ -51,4 +52,5 @@ unfolding marked
 returns c =
     let s = c.args.self.now in
     let l = c.loop-e in
-    ap (λ es. marked l.marks (concat_map (admitted_r (admits_in s)) es)) (sym c.in-None.ensures.steps.0) ∙ (l.invariant.marks ∙ ap (marked c.args.marks.now) (sym (hits-leaf (admits_in s) (table_of s) c.args.p c.requires.page.level)))
+    ap (λ es. marked l.marks (concat_map (admitted_r (admits_in s)) es)) (sym c.in-None.ensures.steps.0)
+    ∙ (l.invariant.marks ∙ ap (marked c.args.marks.now) (sym (hits-leaf (admits_in s) (table_of s) c.args.p c.requires.page.level)))

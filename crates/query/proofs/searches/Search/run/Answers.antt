@@ -36,4 +36,5 @@ returns-clause-count g c =
 pub returns-clause-visited : goal.returns-clause-visited
 returns-clause-visited g c =
     let s = c.args.self.now in
-    subst (λ x. VisitsAll (g.V.Visitor.Visited s) c.args.visitor.now 0 x c.walk.new.visitor) (opened-from (table_of s) _ _ c.root-root.ensures c.level-level.ensures (opens_in s)) c.walk.ensures.visited
+    subst (λ x. VisitsAll (g.V.Visitor.Visited s) c.args.visitor.now 0 x c.walk.new.visitor)
+    (opened-from (table_of s) _ _ c.root-root.ensures c.level-level.ensures (opens_in s)) c.walk.ensures.visited
