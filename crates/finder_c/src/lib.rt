@@ -13,7 +13,7 @@ ghost use Rattle.placing.specs.Calls.{place_call};
 ghost use Rattle.query.specs.Calls.{query_call, OpenedWords};
 
 use outline::{Area, Located};
-use pages::Rect;
+use pages::{Piece, Rect};
 use query::{Answer, Opened};
 use refusals::refusal_of;
 use relations::AdmittedSet;
@@ -45,7 +45,8 @@ pub extern "C" fn finder_place(
 ) -> u32
     ensures { (result, table.new) ≡ place_call table.old number (rect_of x1 y1 x2 y2) }
 {
-    refusal_of(&placing::place(table, number, Rect { x1, y1, x2, y2 }))
+    let piece = Piece::from([number, x1, y1, x2, y2]);
+    refusal_of(&placing::place(table, piece))
 }
 
 #[unsafe(no_mangle)]
