@@ -4,7 +4,6 @@ use native.Mathlib.Omega.{arith}
 use native.Mathlib.Decide.{ℕ_discrete}
 use mathlib.Core.Path.{◌≡◌, sym, ap, ◌∙◌}
 use mathlib.Core.Bool.{Bool, true, false}
-use mathlib.Core.Logic.{◌≢◌}
 use mathlib.Core.List.{List}
 use lib.ListN.{length, get_or, drop, set, replicate, get_or-replicate}
 use lib.Seq.{get_or-set_same, get_or-set_other}
@@ -28,16 +27,6 @@ use Rattle.history.proofs.Reached.{Reached, stored-none}
 
 pub marked-none : (w : List ℕ) → Reached w (λ n. blank) → Marked w (replicate PIECES false)
 marked-none w R c l = ap one (get_or-replicate PIECES c false false l) ∙ sym (stored-none w R c l)
-
--- what a mark says
-module _ (w : List ℕ) (marks : List Bool) (m : Marked w marks) (n : ℕ) (l : n < PIECES) where
-  pub marked-stands : get_or marks n false ≡ true → stored (table_in w) n ≢ 0
-  marked-stands e z =
-      let k : 1 ≡ stored (table_in w) n = ap one (sym e) ∙ m n l in
-      absurd (omega (arith, k, z))
-
-  pub marked-free : get_or marks n false ≡ false → stored (table_in w) n ≡ 0
-  marked-free e = sym (m n l) ∙ ap one e
 
 -- the number n, which did not stand, is placed and marked
 module _ (w : List ℕ) (n : ℕ) (r : Rect) (h : T (sound w)) (v : T (valid r)) (l : n < PIECES) (free : stored (table_in w) n ≡ 0) where

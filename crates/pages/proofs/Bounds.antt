@@ -1,8 +1,7 @@
 -- The bounds of one entry more, and of a page's first entries.
-use Prim.Native.Nat.{ℕ, zero, suc, ◌+◌, ◌<◌}
+use Prim.Native.Nat.{ℕ, zero, suc, ◌<◌}
 use native.Mathlib.Omega.{arith}
 use native.Mathlib.Nat.{not-suc-le-zero}
-use native.Mathlib.Numerals.{add-one}
 use mathlib.Core.Path.{◌≡◌, refl, sym, ap, ◌∙◌}
 use mathlib.Core.List.{List, [], ◌∷◌, ◌++◌}
 use Rattle.std.specs.List.{fold}
@@ -39,7 +38,3 @@ pub length-entries : (w : List ℕ) (n : ℕ) → length (entries_in w n) ≡ n
 unfolding entries_in
 length-entries w zero = refl
 length-entries w (suc n) = omega (arith, length-append (entries_in w n) (entry_in w n ∷ []), length-entries w n)
-
-pub entries-more : (w : List ℕ) (i : ℕ) → entries_in w (i + 1) ≡ entries_in w i ++ (entry_in w i ∷ [])
-unfolding entries_in
-entries-more w i = rw (add-one i)

@@ -7,7 +7,7 @@ use mathlib.Core.Path.{◌≡◌, refl, sym, ap, ◌∙◌}
 use mathlib.Core.Logic.{◌≢◌}
 use mathlib.Core.List.{List, [], ◌∷◌, ◌++◌, append_assoc}
 use lib.ListN.{length, get_or, take, drop, set, replicate, length-append, length-set, length-take, get_or-append, get_or-eq_default}
-use lib.Seq.{sets, sets-eq, take-suc, take-length, take_all, get_or-set_same, get_or-set_other, get_or_at, set-set}
+use lib.Seq.{sets, sets-eq, take-suc, take-length, get_or-set_same, get_or-set_other, get_or_at, set-set}
 use Rattle.pages.specs.declared.Entry.{Entry}
 use Rattle.pages.specs.Sizes.{PAGE_HEAD, FANOUT, ENTRY_WORDS, PAGE_WORDS}
 use Rattle.pages.specs.Layout.{Page, page_of, no_entry, encode_entry, encode_page}
@@ -124,6 +124,3 @@ pub written-more : (w v : List ℕ) (i l : ℕ) (es : List Entry) → i < length
 written-more w v i l es h k p q =
     q ∙ (ap (λ x. appended x (get_or es i no_entry)) p ∙ (appended-is (page_of l (take i es)) (get_or es i no_entry) (omega (arith, length-take i es))
     ∙ ap (λ fs. encode_page (page_of l fs)) (sym (rw add-one (take-suc es i no_entry h)))))
-
-pub written_all : (w : List ℕ) (i l : ℕ) (es : List Entry) → length es ≤ i → w ≡ encode_page (page_of l (take i es)) → w ≡ encode_page (page_of l es)
-written_all w i l es h p = p ∙ ap (λ fs. encode_page (page_of l fs)) (take_all i es h)

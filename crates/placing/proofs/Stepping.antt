@@ -16,7 +16,7 @@ use Rattle.pages.specs.Layout.{page_of, encode_page, page_words}
 use Rattle.pages.specs.Readers.{entry_in, entries_in}
 use Rattle.placing.specs.Place.{ordered}
 use Rattle.pages.specs.Writes.{put_page}
-use Rattle.placing.specs.Steps.{split_into, Written, add_to, entry_for_in, widen_entry, parted, settled, chosen_in, place_at, root_made, topped, place_in}
+use Rattle.placing.specs.Steps.{split_into, Written, add_to, widen_entry, parted, settled, chosen_in, place_at, topped, place_in}
 
 pub split-is : (t w : List ℕ) (p k : ℕ) (e : Entry) (es : List Entry) (u v : List ℕ) → length es ≡ 9 → w ≡ page_words t p → es ≡ ordered (entries_in w FANOUT ++ (e ∷ []))
     → u ≡ put_page t p (encode_page (page_of (get_or w 0 0) (take 4 es))) → v ≡ put_page u k (encode_page (page_of (get_or w 0 0) (take 5 (drop 4 es)))) → v ≡ split_into t p k e
@@ -57,9 +57,3 @@ pub placed-is : (t u v : List ℕ) (n level : ℕ) (r : Rect) (o : Option ℕ) �
     → v ≡ topped (get_or t 1 0) level o u → set v 2 (get_or t 2 0 + 1) ≡ place_in t n r
 unfolding place_in
 placed-is t u v n level r o same left q = rw (← same, ← left, q)
-
--- a new root: its first entry is that of the old one
-pub root-is : (t u : List ℕ) (r q level k : ℕ) (e f : Entry) → k ≡ get_or t 0 0 → k < PAGES → e ≡ entry_for_in t r → f ≡ entry_for_in t q → u ≡ put_page t k (encode_page (page_of level (e ∷ f ∷ [])))
-    → set (set u 0 (k + 1)) 1 k ≡ root_made t r q level
-unfolding root_made
-root-is t u r q level k e f same few a b h = rw (← same, lt-ltb k PAGES few, h, a, b)

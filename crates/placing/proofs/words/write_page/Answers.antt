@@ -1,6 +1,6 @@
 -- The page has the entries passed.
 use Rattle.std.proofs.Common.{rules}
-use Rattle.placing.proofs.PageWords.{written_none, written-room, written-more, written_all}
+use Rattle.placing.proofs.PageWords.{written_none, written-room, written-more}
 use Rattle.placing.proofs.words.write_page.Goals as goal
 
 pub loop-e-init : goal.loop-e-init
@@ -11,6 +11,3 @@ append_entry-requires c = written-room _ _ _ c.args.es.now c.loop-e-test.true (s
 
 pub loop-e-preserved : goal.loop-e-preserved
 loop-e-preserved c = written-more _ _ _ _ c.args.es.now c.loop-e-test.true (search rules) c.loop-e.invariant c.append_entry.ensures
-
-pub returns : goal.returns
-returns c = written_all _ _ _ c.args.es.now (search rules) c.loop-e.invariant
