@@ -28,6 +28,7 @@ byte-of (w ∷ ws) (suc i) k n cut h l e =
     let behind : n ≡ length w + (WORD_BYTES * i + k) = omega (arith, cut 0 (omega arith)) in
     rw behind (get_or-append-add w (concat ws) (WORD_BYTES * i + k) 0 ∙ byte-of ws i k (WORD_BYTES * i + k) (λ j s. cut (suc j) (omega arith)) (omega arith) l refl)
 
+-- word i, by its bytes
 pub word_of : (ws : List (List ℕ)) (i : ℕ) → Cut ws → i < length ws → from_le_bytes w32 (get_or ws i []) ≡ word_at (concat ws) i
 unfolding word_at
 word_of ws i cut h =
@@ -40,7 +41,8 @@ word_of ws i cut h =
       byte 3 (WORD_BYTES * i + 3) (omega arith) refl,
     )
 
-pub value_of : (w : List ℕ) → from_le_bytes w32 w ≡ word_at w 0
+-- what its bytes are worth
+value_of : (w : List ℕ) → from_le_bytes w32 w ≡ word_at w 0
 unfolding word_at
 value_of w = omega arith
 
@@ -50,6 +52,7 @@ all_chunks n zero [] e = refl
 all_chunks n zero (x ∷ b) e = absurd (omega arith)
 all_chunks n (suc k) b e = ap (λ l. take n b ++ l) (all_chunks n k (drop n b) (omega (arith, length-drop n b))) ∙ take-append-drop n b
 
+-- the words that all the bytes make up
 pub joined : (b : List ℕ) (ws : List (List ℕ)) → ws ≡ first_chunks WORD_BYTES (length b / WORD_BYTES) b → length b % WORD_BYTES ≡ 0 → concat ws ≡ b
 joined b ws e none = ap concat e ∙ all_chunks WORD_BYTES (length b / WORD_BYTES) b (omega (arith, div-add-mod (length b) WORD_BYTES))
 
@@ -88,13 +91,13 @@ clause_of ws two j cut room same =
     rw (word 0 (omega arith), word 1 (omega arith), add-zero) refl
 
 -- the clauses of the words `xs`, which are those from place `at` on
-clauses-of : (ws xs : List (List ℕ)) (at n : ℕ) → Cut ws → at + CLAUSE_WORDS * n ≤ length ws → ((k : ℕ) → k < CLAUSE_WORDS * n → get_or xs k [] ≡ get_or ws (at + k) [])
+clause-pairs : (ws xs : List (List ℕ)) (at n : ℕ) → Cut ws → at + CLAUSE_WORDS * n ≤ length ws → ((k : ℕ) → k < CLAUSE_WORDS * n → get_or xs k [] ≡ get_or ws (at + k) [])
     → CLAUSE_WORDS * n ≤ length xs → map clause_in (first_chunks CLAUSE_WORDS n xs) ≡ clauses_at (concat ws) at n
-clauses-of ws xs at zero cut room same long = sym (no_clause (concat ws) at)
-clauses-of ws xs at (suc n) cut room same long =
+clause-pairs ws xs at zero cut room same long = sym (no_clause (concat ws) at)
+clause-pairs ws xs at (suc n) cut room same long =
     let two = take CLAUSE_WORDS (drop (n * CLAUSE_WORDS) xs) in
     let first = n * CLAUSE_WORDS in
-    let read = clauses-of ws xs at n cut (omega arith) (λ k h. same k (omega arith)) (omega arith) in
+    let read = clause-pairs ws xs at n cut (omega arith) (λ k h. same k (omega arith)) (omega arith) in
     let last = clause_of ws two (at + CLAUSE_WORDS * n) cut (omega arith)
     (λ k h. get_or-take CLAUSE_WORDS (drop first xs) k [] h ∙ get_or-drop first xs k [] ∙ same (first + k) (omega arith)
     ∙ (let place : at + (first + k) ≡ at + CLAUSE_WORDS * n + k = omega arith in ap (λ i. get_or ws i []) place)) in
@@ -110,7 +113,7 @@ clauses_of ws pairs i n cut room e =
     let long : length part ≡ CLAUSE_WORDS * n = length-take-le _ (drop i ws) (omega (arith, length-drop i ws)) ∙ omega arith in
     let half : length part / CLAUSE_WORDS ≡ n = omega (arith, long) in
     ap (map clause_in) (e ∙ ap (λ k. first_chunks CLAUSE_WORDS k part) half)
-    ∙ clauses-of ws part i n cut room (λ k h. get_or-take _ (drop i ws) k [] (omega arith) ∙ get_or-drop i ws k []) (omega (arith, long))
+    ∙ clause-pairs ws part i n cut room (λ k h. get_or-take _ (drop i ws) k [] (omega arith) ∙ get_or-drop i ws k []) (omega (arith, long))
 
 pub rect-is : (a b c d a' b' c' d' : ℕ) → a ≡ a' → b ≡ b' → c ≡ c' → d ≡ d' → rect_of a b c d ≡ rect_of a' b' c' d'
 rect-is a b c d a' b' c' d' p q r s = cc

@@ -38,7 +38,7 @@ const CLAUSE_WORDS: usize = 2;
 // One clause more than a query may have: enough of them to be refused.
 const CLAUSES_READ: usize = CLAUSES + 1;
 
-/// A well-formed job: its bytes, how many pieces and queries it has, and the word at which its queries begin.
+/// A well-formed job: its bytes, the words that they make up, how many pieces and queries it has, and the word at which its queries begin.
 #[derive(Clone, Copy)]
 pub struct Job<'a> {
     pub bytes: &'a [u8],

@@ -41,6 +41,7 @@ pub(crate) fn words_at<const N: usize>(words: &[Word], i: usize) -> [u32; N]
 }
 
 // The clauses from word `i` on, each as its words.
+#[tactic(auto, using(crate::proofs::Reading::clauses_of))]
 pub(crate) fn clauses_at(words: &[Word], i: usize, count: usize) -> &[[Word; CLAUSE_WORDS]]
     requires { i + CLAUSE_WORDS * count ≤ length words.now }
     ensures { map clause_in result.now ≡ clauses_at (concat words.now) i count }

@@ -1,5 +1,5 @@
 -- What is read, and what is still to be read.
-use Rattle.std.proofs.Common.{refl, arith, ℕ, suc, zero, ◌+◌, ◌<◌, ◌≡◌, List, [], ◌∷◌, ◌++◌, length, take, map, append_assoc, append-nil, sym, ◌∙◌}
+use Rattle.std.proofs.Common.{arith, ℕ, suc, zero, ◌+◌, ◌<◌, ◌≡◌, List, [], ◌∷◌, ◌++◌, length, take, map, append_assoc, append-nil, sym, ◌∙◌}
 use Rattle.job.specs.Steps.{clause_in}
 use Rattle.job.proofs.words.first_clauses.Goals as goal
 
@@ -14,12 +14,6 @@ none-left read all rest zero so_far e = sym (append-nil read) ∙ so_far
 none-left read all [] (suc n) so_far e = sym (append-nil read) ∙ so_far
 none-left read all (w ∷ rest) (suc n) so_far e = absurd (omega (arith, e (omega arith)))
 
-pub loop-words-init : goal.loop-words-init
-loop-words-init c =
-    let first = c.take-words-items.ensures in
-    let same = c.into_iter-words-iterator.ensures.into_iter_gives in
-    (tt, tt, rw (same, first.count, first.source, c.iter.ensures.rest, c.new-read.ensures) refl, rw (same, first.count, c.new-read.ensures) (omega arith))
-
 pub loop-words-preserved : goal.loop-words-preserved
 loop-words-preserved c =
     let step = c.in-Some.ensures.steps in (
@@ -28,9 +22,6 @@ loop-words-preserved c =
       rw (c.push.ensures.items, c.clause_in.ensures) (one_more _ _ _ _ _ _ _ c.loop-words.invariant.2 step.0 step.1),
       omega (arith, c.push.ensures.len, c.loop-words.invariant.3, step.1),
     )
-
-pub push-requires : goal.push-requires
-push-requires c = (omega arith, omega (arith, c.loop-words.invariant.3, c.in-Some.ensures.steps.1))
 
 pub returns : goal.returns
 returns c = none-left _ _ _ _ c.loop-words.invariant.2 (λ h. (c.in-None.ensures.steps h).0)

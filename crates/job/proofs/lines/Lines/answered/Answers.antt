@@ -4,9 +4,6 @@ use Rattle.job.specs.Lines.{ANSWERED}
 use Rattle.job.proofs.Writing.{more_short, answered_short, answered_behind}
 use Rattle.job.proofs.lines.Lines.answered.Goals as goal
 
-pub byte-requires : goal.byte-requires
-byte-requires g c = (search rules, omega (arith, c.requires.0))
-
 pub field-requires : goal.field-requires
 field-requires g c =
     let at = c.args in

@@ -5,9 +5,6 @@ use Rattle.job.proofs.Decimal.{word_short}
 use Rattle.job.proofs.Writing.{two_short, refused_short, refused_behind}
 use Rattle.job.proofs.lines.Lines.refused.Goals as goal
 
-pub byte-requires : goal.byte-requires
-byte-requires g c = (search rules, omega arith)
-
 pub field-requires : goal.field-requires
 field-requires g c = let at = c.args in (search rules, rw (c.byte.ensures, length-append) (omega (arith, word_short at.position c.ranges.position.fits)))
 

@@ -1,43 +1,48 @@
 -- The query's words lie within the job, which is short.
-use Rattle.std.proofs.Common.{arith, refl, ap, ◌∙◌, ◌+◌, length, get_or}
-use Rattle.job.specs.Sizes.{QUERY_HEAD, CLAUSE_COUNT_AT}
-use Rattle.job.specs.Words.{clauses_at}
+use Rattle.std.proofs.Common.{arith, ℕ, ◌≡◌, ◌≤◌, ◌<◌, ◌+◌, ◌*◌, refl, ap, ◌∙◌, length, get_or, List}
+use Rattle.std.specs.List.{concat}
+use Rattle.job.specs.Sizes.{JOB_BYTES, QUERY_HEAD, CLAUSE_COUNT_AT, CLAUSE_WORDS}
+use Rattle.job.specs.Words.{word_at, clauses_at}
+use Rattle.job.specs.declared.queries.Queries.{Queries}
 use Rattle.job.proofs.Reading.{read_from, rect-is}
 use Rattle.job.proofs.Places.{next_place}
 use Rattle.job.proofs.Items.{short, query_within, query-refers, query-asks}
 use Rattle.job.proofs.queries.QueriesIterator.next.Goals as goal
 
+-- the words of the next query, and of a job
+within : (s : Queries) → s.next < s.job.queries
+    → (s.start + QUERY_HEAD + CLAUSE_WORDS * word_at s.job.bytes.now (s.start + CLAUSE_COUNT_AT) ≤ length s.job.words.now) × (length s.job.words.now ≤ JOB_BYTES)
+within s h =
+    let b = s.job.bytes.now in (
+      query_within b s.job.whole s.next s.start (length s.job.words.now) (omega (arith, s.job.queries_are)) s.begins s.job.cut.1,
+      omega (arith, short b s.job.whole, s.job.cut.1),
+    )
+
+count-is : (s : Queries) (head : List ℕ) → ((k : ℕ) → k < QUERY_HEAD → get_or head k 0 ≡ word_at (concat s.job.words.now) (s.start + k))
+    → get_or head CLAUSE_COUNT_AT 0 ≡ word_at s.job.bytes.now (s.start + CLAUSE_COUNT_AT)
+count-is s head words = read_from _ _ head QUERY_HEAD s.start s.job.cut words CLAUSE_COUNT_AT (s.start + CLAUSE_COUNT_AT) (omega arith) refl
+
 pub words_at-requires : goal.words_at-requires
-words_at-requires c =
-    let s = c.args.self.now in
-    let within = query_within s.job.bytes.now s.job.whole s.next s.start (length s.job.words.now) (omega (arith, s.job.queries_are, s.listed, c.if-self.false)) s.begins s.job.cut.1 in
-    (omega arith, omega (arith, within))
+words_at-requires c = let s = c.args.self.now in (omega arith, omega (arith, (within s (omega (arith, s.listed, c.if-self.false))).0))
 
 pub overflow_add-first : goal.overflow_add-first
-overflow_add-first c =
-    let s = c.args.self.now in
-    let within = query_within s.job.bytes.now s.job.whole s.next s.start (length s.job.words.now) (omega (arith, s.job.queries_are, s.listed, c.if-self.false)) s.begins s.job.cut.1 in
-    omega (arith, within, short s.job.bytes.now s.job.whole, s.job.cut.1)
+overflow_add-first c = let s = c.args.self.now in let room = within s (omega (arith, s.listed, c.if-self.false)) in omega (arith, room.0, room.1)
 
 pub clauses_at-requires : goal.clauses_at-requires
 clauses_at-requires c =
     let s = c.args.self.now in
-    let within = query_within s.job.bytes.now s.job.whole s.next s.start (length s.job.words.now) (omega (arith, s.job.queries_are, s.listed, c.if-self.false)) s.begins s.job.cut.1 in
-    let count = read_from _ _ c.words_at.result QUERY_HEAD s.start s.job.cut c.words_at.ensures CLAUSE_COUNT_AT (s.start + CLAUSE_COUNT_AT) (omega arith) refl in
-    omega (arith, within, count)
+    omega (arith, (within s (omega (arith, s.listed, c.if-self.false))).0, count-is s c.words_at.result c.words_at.ensures)
 
 pub overflow_add-self : goal.overflow_add-self
 overflow_add-self c =
     let s = c.args.self.now in
-    let within = query_within s.job.bytes.now s.job.whole s.next s.start (length s.job.words.now) (omega (arith, s.job.queries_are, s.listed, c.if-self.false)) s.begins s.job.cut.1 in
-    let count = read_from _ _ c.words_at.result QUERY_HEAD s.start s.job.cut c.words_at.ensures CLAUSE_COUNT_AT (s.start + CLAUSE_COUNT_AT) (omega arith) refl in
-    omega (arith, within, count, short s.job.bytes.now s.job.whole, s.job.cut.1)
+    let room = within s (omega (arith, s.listed, c.if-self.false)) in
+    omega (arith, room.0, room.1, count-is s c.words_at.result c.words_at.ensures)
 
 pub invariant_of-self : goal.invariant_of-self
 invariant_of-self c =
     let s = c.args.self.now in
-    let count = read_from _ _ c.words_at.result QUERY_HEAD s.start s.job.cut c.words_at.ensures CLAUSE_COUNT_AT (s.start + CLAUSE_COUNT_AT) (omega arith) refl in
-    record { listed = omega (arith, s.listed, c.if-self.false); begins = next_place s.job.bytes.now s.start s.next _ s.begins count }
+    record { listed = omega (arith, s.listed, c.if-self.false); begins = next_place s.job.bytes.now s.start s.next _ s.begins (count-is s c.words_at.result c.words_at.ensures) }
 
 pub invariant_of-query : goal.invariant_of-query
 invariant_of-query c =
