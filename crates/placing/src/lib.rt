@@ -152,7 +152,7 @@ fn make_root(table: &mut [u32; TABLE_WORDS], root: u32, q: u32, level: u32)
 }
 
 // A place call that nothing refuses.
-fn place_new(table: &mut [u32], number: u32, rect: ValidRect)
+pub fn place_new(table: &mut [u32], number: u32, rect: ValidRect)
     requires { (TABLE_WORDS ≤ length table.old) × T (sound table.old) × (number < PIECES) × (stored (table_in table.old) number ≡ 0) }
     ensures { table.new ≡ placed_words table.old number rect.rect }
 {
