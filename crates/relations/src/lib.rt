@@ -8,7 +8,7 @@ ghost use Rattle.relations.specs.Axis.{CODES, code, IsCode};
 ghost use Rattle.relations.specs.Relation.{sets_of};
 ghost use Rattle.relations.specs.Query.{count_of, some_bad, refusal_of as clauses_refusal, admitted_of, admitted_set_of};
 ghost use Rattle.relations.specs.Steps.{side_of, named_row, with_relation, cut_to};
-ghost use Rattle.relations.specs.Steps.{union_of, joined_of, node_masks, page_test, open_at, near_by, reach_by, overlap_by, rows_have};
+ghost use Rattle.relations.specs.Steps.{union_of, joined_of, node_masks, page_test, open_at, near_by, inner_by, reach_by, overlap_by, rows_have};
 
 mod set_bits;
 
@@ -304,9 +304,9 @@ impl PageTest {
         self.may_hold(c, AROUND) || self.may_hold(AROUND, c)
     }
 
-    // Whether nothing beyond the reference can be admitted.
+    /// Whether nothing beyond the reference can be admitted.
     #[tactic(auto, unfolding(crate::specs::Steps::near_by))]
-    fn is_near(&self) -> bool
+    pub fn is_near(&self) -> bool
         ensures { result ≡ near_by self.now.below }
     {
         !self.is_open(Code { number: 1 })
@@ -328,12 +328,20 @@ impl PageTest {
         Reach::Inner
     }
 
+    /// Whether nothing is admitted but with both codes in 3 to 11.
+    #[tactic(auto, unfolding(crate::specs::Steps::reach_by))]
+    pub fn is_inner(&self) -> bool
+        ensures { result ≡ inner_by self.now.below }
+    {
+        self.reach() == Reach::Inner
+    }
+
     /// Whether the admitted set is that of overlap, the 81 configurations with both codes in 3 to 11: a walk then needs no codes.
     #[tactic(auto, unfolding(crate::specs::Steps::overlap_by))]
     pub fn is_overlap(&self, set: &RowSets) -> bool
         ensures { result ≡ overlap_by set.now.rows self.now.below }
     {
-        if self.reach() != Reach::Inner {
+        if !self.is_inner() {
             return false;
         }
         let shared = set.rows[3..=10]
