@@ -20,12 +20,6 @@ loop-e-init c =
       each = subst (Every (λ x. Small x.rect × (x.r < PIECES))) (sym e) (piece-entries _ _ _ c.requires refl);
     }
 
-pub is_beyond-requires : goal.is_beyond-requires
-is_beyond-requires c = (subst (Every (λ x. Small x.rect × (x.r < PIECES))) c.in-Some.ensures.steps c.loop-e.invariant.each).0.0
-
-pub mark-requires : goal.mark-requires
-mark-requires c = (subst (Every (λ x. Small x.rect × (x.r < PIECES))) c.in-Some.ensures.steps c.loop-e.invariant.each).0.1
-
 pub loop-e-preserved-then-admits : goal.loop-e-preserved-then-admits
 loop-e-preserved-then-admits c =
     let s = c.args.self.now in
@@ -33,16 +27,6 @@ loop-e-preserved-then-admits c =
     let steps = c.in-Some.ensures.steps in
     let each = subst (Every (λ x. Small x.rect × (x.r < PIECES))) steps l.invariant.each in record {
       marks = marking-step (admits_in s) _ _ c.in-Some.e l.marks _ true steps (sym c.if-admits.true ∙ c.admits.ensures) c.mark.ensures ∙ l.invariant.marks;
-      each = each.1;
-    }
-
-pub loop-e-preserved : goal.loop-e-preserved
-loop-e-preserved c =
-    let s = c.args.self.now in
-    let l = c.loop-e in
-    let steps = c.in-Some.ensures.steps in
-    let each = subst (Every (λ x. Small x.rect × (x.r < PIECES))) steps l.invariant.each in record {
-      marks = marking-step (admits_in s) _ _ c.in-Some.e l.marks l.marks false steps (sym c.if-admits.false ∙ c.admits.ensures) refl ∙ l.invariant.marks;
       each = each.1;
     }
 

@@ -20,12 +20,6 @@ loop-e-init c =
       each = subst (Every (λ x. Small x.rect × (x.r < PIECES))) (sym e) (piece-entries _ _ _ c.requires.page refl);
     }
 
-pub is_beyond-requires : goal.is_beyond-requires
-is_beyond-requires c = (subst (Every (λ x. Small x.rect × (x.r < PIECES))) c.in-Some.ensures.steps c.loop-e.invariant.each).0.0
-
-pub mark-requires : goal.mark-requires
-mark-requires c = (subst (Every (λ x. Small x.rect × (x.r < PIECES))) c.in-Some.ensures.steps c.loop-e.invariant.each).0.1
-
 pub loop-e-preserved-then-not-is_beyond : goal.loop-e-preserved-then-not-is_beyond
 loop-e-preserved-then-not-is_beyond c =
     let s = c.args.self.now in
