@@ -193,9 +193,6 @@ writing-more all rest xs ys next o₀ o o' r w e n h = record {
   size = ap length h ∙ (simp length-sets w.size);
 }
 
-pub writing-end : (all rest : List ℕ) (next : ℕ) (o₀ o : List ℕ) → Writing all rest next o₀ o → rest ≡ [] → (next ≡ length all) × (o ≡ sets o₀ 0 all)
-writing-end all rest next o₀ o w e = (omega (arith, w.count, ap length e), ap (sets o next) (sym e) ∙ w.words)
-
 -- what is left has room
 pub writing-room : (all rest xs ys : List ℕ) (next : ℕ) (o₀ o : List ℕ) → Writing all rest next o₀ o → rest ≡ xs ++ ys → next + length xs ≤ length all
 writing-room all rest xs ys next o₀ o w e = omega (arith, w.count, ap length e, length-append xs ys)

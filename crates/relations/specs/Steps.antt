@@ -68,7 +68,7 @@ unfoldable pub inner_by : List ℕ → Bool
 unfolding near_by
 inner_by joined = near_by joined && not (open_at joined 12)
 
--- where a rectangle lies that can be admitted
+-- how far from the reference rectangles can be admitted
 unfoldable pub reach_by : List ℕ → Reach
 unfolding near_by inner_by
 reach_by joined = cond (inner_by joined) Inner (cond (near_by joined) Near Anywhere)

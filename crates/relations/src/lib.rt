@@ -236,7 +236,7 @@ impl From<Result<RowSets, Refusal>> for AdmittedSet {
     }
 }
 
-/// Where a rectangle lies to the reference that can be admitted.
+/// How far from the reference rectangles can be admitted.
 #[derive(Clone, Copy, Debug, PartialEq, Eq)]
 pub enum Reach {
     /// Both codes are in 3 to 11: more than edges meet.
@@ -314,7 +314,7 @@ impl PageTest {
             && !self.is_open(Code { number: CODES })
     }
 
-    /// Where what can be admitted lies. Most queries ask for contact, and a walk then passes by what lies beyond without its codes.
+    /// How far rectangles can be admitted. Most queries ask for contact, and a walk then passes by what lies beyond without its codes.
     #[tactic(auto, unfolding(crate::specs::Steps::reach_by, crate::specs::Steps::inner_by))]
     pub fn reach(&self) -> Reach
         ensures { result ≡ reach_by self.now.below }

@@ -170,8 +170,8 @@ module _ (w : List ℕ) (long : TABLE_WORDS ≤ length w) (holds : T (sound w)) 
   call-words : listed_words (query_call w q clauses answer) ≡ listing (admits_rect clauses q) (table_in w)
   unfolding query_listing
   call-words =
-    let list = listing (admits_rect clauses q) (table_in w) in
-    ap listed_words (answer-is w q clauses answer good) ∙ take-append_seam list (drop (length list) answer)
+      let list = listing (admits_rect clauses q) (table_in w) in
+      ap listed_words (answer-is w q clauses answer good) ∙ take-append_seam list (drop (length list) answer)
 
   listed-weighs : (n : ℕ) → In n (listed_words (query_call w q clauses answer)) → (n < PIECES) × (1 ≤ admitted_as (admits_rect clauses q) (table_in w) n)
   unfolding listing
