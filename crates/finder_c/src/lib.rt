@@ -45,8 +45,8 @@ pub extern "C" fn finder_place(
 ) -> u32
     ensures { (result, table.new) ≡ place_call table.old number (rect_of x1 y1 x2 y2) }
 {
-    let piece = Piece::from([number, x1, y1, x2, y2]);
-    refusal_of(&placing::place(table, piece))
+    let rect = Rect { x1, y1, x2, y2 };
+    refusal_of(&placing::place(table, Piece { number, rect }))
 }
 
 #[unsafe(no_mangle)]
