@@ -115,7 +115,7 @@ fn from_last(i: u16) -> u16 {
 
 impl Lay {
     pub fn count(self) -> usize
-        ensures { result ≤ 3000 }
+        ensures { result ≤ MOST_CALLS }
     {
         match self {
             Lay::Refused => MOST_CALLS,
@@ -145,9 +145,8 @@ fn shuffle(calls: &mut [[u32; CALL_WORDS]], mut draws: Generator) {
     }
 }
 
-// The calls of a lay as words, from the generator's state x; those of a shuffled one change places at the end.
-pub fn write(lay: Lay, x: u32, words: &mut [u32]) {
-    let (calls, _) = words.as_chunks_mut::<CALL_WORDS>();
+// The calls of a lay, from the generator's state x; those of a shuffled one change places at the end.
+pub fn write(lay: Lay, x: u32, calls: &mut [[u32; CALL_WORDS]]) {
     let mut draws = Generator::new(x);
     for (i, call) in (0..u16::MAX).zip(calls.iter_mut()) {
         let Piece { number, rect } = lay.piece(i, &mut draws);

@@ -9,8 +9,6 @@ use std::io;
 
 const QUESTIONS: u8 = 10;
 
-const MOST_WORDS: usize = CALL_WORDS * MOST_CALLS;
-
 // After how many calls the sum of the table is printed.
 const STOPS: [u16; 7] = [1, 8, 9, 10, 33, 100, 500];
 
@@ -90,26 +88,13 @@ fn clauses(kind: Kind, draws: &mut Generator) -> (u64, Option<u64>) {
     }
 }
 
-// A query on a reference that is drawn, or for an odd q on the first entry of page q mod k, if it has one.
-fn question(
-    rt: &impl Print,
-    table: &[u32; TABLE_WORDS],
-    unit: u32,
-    q: u8,
-    kind: Kind,
-    draws: &mut Generator,
-    answer: &mut [u16],
-) -> io::Result<()> {
-    let drawn = drawn(unit, draws);
-    let reference = if q % 2 == 0 {
-        drawn
-    } else {
-        first_entry(table, q).unwrap_or(drawn)
-    };
-    match clauses(kind, draws) {
-        (first, None) => ask(rt, table, reference, &[first], answer),
-        (first, Some(second)) => ask(rt, table, reference, &[first, second], answer),
+// A reference that is drawn, or for an odd q the first entry of page q mod k, if it has one.
+fn reference(table: &[u32; TABLE_WORDS], unit: u32, q: u8, draws: &mut Generator) -> Rect {
+    let other = drawn(unit, draws);
+    if q % 2 == 0 {
+        return other;
     }
+    first_entry(table, q).unwrap_or(other)
 }
 
 fn questions(
@@ -121,7 +106,11 @@ fn questions(
     let mut draws = Generator::new(5);
     for (q, kind) in (0..QUESTIONS).zip(KINDS.iter().cycle()) {
         rt.print(run.name)?;
-        question(rt, table, run.unit, q, *kind, &mut draws, answer)?;
+        let reference = reference(table, run.unit, q, &mut draws);
+        match clauses(*kind, &mut draws) {
+            (first, None) => ask(rt, table, reference, &[first], answer)?,
+            (first, Some(second)) => ask(rt, table, reference, &[first, second], answer)?,
+        }
     }
     Ok(())
 }
@@ -129,22 +118,19 @@ fn questions(
 // The table after the first calls, by `replay`.
 fn stop(
     rt: &impl Print,
-    calls: &[u32],
+    calls: &[[u32; CALL_WORDS]],
     count: u16,
     table: &mut [u32],
     returned: &mut [u32],
 ) -> io::Result<()> {
-    let first = calls
-        .get(..CALL_WORDS * usize::from(count))
-        .unwrap_or(calls);
-    let _ = history::replay(table, first, returned);
+    let first = calls.get(..usize::from(count)).unwrap_or(calls);
+    let _ = history::replay(table, first.as_flattened(), returned);
     print!(rt; "after {count}")?;
     checksum(rt, table)?;
     println!(rt)
 }
 
-fn place_all(calls: &[u32], table: &mut [u32], returned: &mut [u32]) {
-    let (calls, _) = calls.as_chunks::<CALL_WORDS>();
+fn place_all(calls: &[[u32; CALL_WORDS]], table: &mut [u32], returned: &mut [u32]) {
     for (&call, refusal) in calls.iter().zip(returned.iter_mut()) {
         *refusal = refusal_of(&placing::place(table, Piece::from(call)));
     }
@@ -168,10 +154,10 @@ fn print_refusals(rt: &impl Print, returned: &[u32]) -> io::Result<()> {
 // Some stops, then the calls one after the other, then the questions.
 pub fn print_run(rt: &impl Print, run: Run, answer: &mut [u16]) -> io::Result<()> {
     let mut table = [0u32; TABLE_WORDS];
-    let mut words = [0u32; MOST_WORDS];
+    let mut calls = [[0u32; CALL_WORDS]; MOST_CALLS];
     let mut returned = [0u32; MOST_CALLS];
     let count = run.lay.count();
-    let calls = &mut words[..CALL_WORDS * count];
+    let calls = &mut calls[..count];
     let returned = &mut returned[..count];
     write(run.lay, run.x, calls);
     println!(rt; "run {} {count}", run.name)?;

@@ -1,7 +1,7 @@
 // Places the examples of document 01 and prints what the calls return and leave.
 #![tactic(auto)]
 
-use pages::{PAGE_WORDS, PIECE_COUNT, Piece, Rect, TABLE_HEAD, TABLE_WORDS};
+use pages::{PAGE_COUNT, PIECE_COUNT, Piece, Rect, TABLE_WORDS};
 use printing::{ask, checksum, edges, head, head_and_sum, number, numbers, store, word};
 use refusals::refusal_of;
 use std::io;
@@ -32,7 +32,7 @@ static CALLS: [[u32; 5]; 13] = [
 ];
 
 // Pieces 0 to 8, piece c at (10c, 0, 10c + 5, 5).
-fn place_nine(rt: &impl Print, table: &mut [u32]) -> io::Result<()> {
+fn place_nine(rt: &impl Print, table: &mut [u32; TABLE_WORDS]) -> io::Result<()> {
     let _ = pages::empty(table);
     print!(rt; "nine")?;
     for c in 0..9 {
@@ -42,16 +42,12 @@ fn place_nine(rt: &impl Print, table: &mut [u32]) -> io::Result<()> {
     println!(rt)
 }
 
-fn print_nine(rt: &impl Print, table: &[u32]) -> io::Result<()> {
+fn print_nine(rt: &impl Print, table: &[u32; TABLE_WORDS]) -> io::Result<()> {
     print!(rt; "head")?;
     head(rt, table)?;
-    let (pages, _) = table
-        .get(TABLE_HEAD..)
-        .unwrap_or(&[])
-        .as_chunks::<PAGE_WORDS>();
-    for (p, page) in pages.iter().take(3).enumerate() {
+    for p in 0..3 {
         print!(rt; "\npage {p} |")?;
-        numbers(rt, page)?;
+        numbers(rt, pages::page_of(table, p))?;
     }
     print!(rt; "\nequal")?;
     let mut answer = [0; pages::NUMBERS];
@@ -65,7 +61,7 @@ fn print_nine(rt: &impl Print, table: &[u32]) -> io::Result<()> {
 }
 
 // A place call, what it returns, the pieces and the sum of all words after it.
-fn print_call(rt: &impl Print, table: &mut [u32], piece: Piece) -> io::Result<()> {
+fn print_call(rt: &impl Print, table: &mut [u32; TABLE_WORDS], piece: Piece) -> io::Result<()> {
     let refusal = refusal_of(&placing::place(table, piece));
     print!(rt; "place {}", piece.number)?;
     edges(rt, piece.rect)?;
@@ -90,8 +86,8 @@ fn short_calls(rt: &impl Print) -> io::Result<()> {
 }
 
 // A table that is not sound, then the empty one.
-fn unsound_calls(rt: &impl Print, table: &mut [u32]) -> io::Result<()> {
-    store(table, 0, 0);
+fn unsound_calls(rt: &impl Print, table: &mut [u32; TABLE_WORDS]) -> io::Result<()> {
+    store(table, PAGE_COUNT, 0);
     print_refused(rt, "unsound", table)?;
     print!(rt; "empty {}", refusal_of(&pages::empty(table)))?;
     head_and_sum(rt, table)

@@ -23,19 +23,19 @@ fn words_of(table: &Table) -> [u32; pages::TABLE_WORDS] {
     words[pages::PAGE_COUNT] = table.pages.len().min(pages::PAGES) as u32;
     words[pages::ROOT] = table.root;
     words[pages::PIECE_COUNT] = table.pieces;
-    let (pages, _) = words[pages::TABLE_HEAD..].as_chunks_mut::<PAGE_WORDS>();
-    for (words, page) in pages.iter_mut().zip(table.pages) {
-        write_page(words, page);
+    let (places, _) = words[pages::TABLE_HEAD..].as_chunks_mut::<PAGE_WORDS>();
+    for (place, page) in places.iter_mut().zip(table.pages) {
+        put_page(place, page);
     }
     words
 }
 
-fn write_page(words: &mut [u32; PAGE_WORDS], page: &Page) {
+fn put_page(words: &mut [u32; PAGE_WORDS], page: &Page) {
     words[pages::LEVEL] = page.level;
     words[pages::COUNT] = page.entries.len().min(pages::FANOUT) as u32;
-    let (entries, _) = words[pages::PAGE_HEAD..].as_chunks_mut::<ENTRY_WORDS>();
-    for (words, entry) in entries.iter_mut().zip(page.entries) {
-        *words = *entry;
+    let (places, _) = words[pages::PAGE_HEAD..].as_chunks_mut::<ENTRY_WORDS>();
+    for (place, entry) in places.iter_mut().zip(page.entries) {
+        *place = *entry;
     }
 }
 
@@ -57,31 +57,21 @@ fn print_pages(rt: &impl Print, list: &[u16]) -> io::Result<()> {
     Ok(())
 }
 
-// Refusal, hits, opened pages, the listing, and the sum.
-fn ask_query(
-    rt: &impl Print,
-    table: &[u32],
-    reference: Rect,
-    clauses: &[u64],
-    answer: &mut [u16],
-) -> io::Result<()> {
+// What the query call answers, and the sum.
+fn ask_query(rt: &impl Print, table: &[u32], query: &Query, answer: &mut [u16]) -> io::Result<()> {
     answer.fill(BLANK);
-    let a = Answer::from(query::query(table, reference, clauses, answer));
+    let reference = Rect::from(query.edges);
+    let a = Answer::from(query::query(table, reference, query.clauses, answer));
     print!(rt; " | {} {} {} |", a.refusal, a.hits, a.opened)?;
     numbers(rt, query::front(answer, a.hits as usize))?;
     print_sum(rt, answer)
 }
 
-// Refusal, count, the opened pages, and the sum.
-fn ask_opened(
-    rt: &impl Print,
-    table: &[u32],
-    reference: Rect,
-    clauses: &[u64],
-    answer: &mut [u16],
-) -> io::Result<()> {
+// What the call for the opened pages answers, and the sum.
+fn ask_opened(rt: &impl Print, table: &[u32], query: &Query, answer: &mut [u16]) -> io::Result<()> {
     answer.fill(BLANK);
-    let o = Opened::from(query::opened_pages(table, reference, clauses, answer));
+    let reference = Rect::from(query.edges);
+    let o = Opened::from(query::opened_pages(table, reference, query.clauses, answer));
     print!(rt; " | {} {} |", o.refusal, o.count)?;
     print_pages(rt, query::front(answer, o.count as usize))?;
     print_sum(rt, answer)
@@ -99,9 +89,8 @@ fn ask(
         numbers(rt, &query.edges)?;
         print!(rt; " {}", query.clauses.len())?;
         numbers(rt, query.clauses)?;
-        let reference = Rect::from(query.edges);
-        ask_query(rt, table, reference, query.clauses, answer)?;
-        ask_opened(rt, table, reference, query.clauses, answer)?;
+        ask_query(rt, table, query, answer)?;
+        ask_opened(rt, table, query, answer)?;
         println!(rt)?;
     }
     Ok(())
@@ -123,12 +112,17 @@ fn ask_room(
 
 // Answer slices that are just long enough for each call, and one word shorter.
 fn ask_rooms(rt: &impl Print, nine: &[u32], empty: &[u32], answer: &mut [u16]) -> io::Result<()> {
-    ask_room(rt, "nine-words", nine, 9, answer)?;
-    ask_room(rt, "eight-words", nine, 8, answer)?;
-    ask_room(rt, "three-words", nine, 3, answer)?;
-    ask_room(rt, "two-words", nine, 2, answer)?;
-    ask_room(rt, "empty-one-word", empty, 1, answer)?;
-    ask_room(rt, "empty-no-word", empty, 0, answer)
+    for (name, table, room) in [
+        ("nine-words", nine, 9),
+        ("eight-words", nine, 8),
+        ("three-words", nine, 3),
+        ("two-words", nine, 2),
+        ("empty-one-word", empty, 1),
+        ("empty-no-word", empty, 0),
+    ] {
+        ask_room(rt, name, table, room, answer)?;
+    }
+    Ok(())
 }
 
 // The length of the slice, the count, and the part that the front call hands back.
