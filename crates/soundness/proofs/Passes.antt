@@ -23,7 +23,7 @@ use Rattle.pages.proofs.Counting.{stored-sum, highest}
 use Rattle.pages.proofs.Entries.{Fits, leaf-pieces, fits-above}
 use Rattle.pages.proofs.Walk.{under-root}
 use Rattle.pages.proofs.Visit.{seen-root}
-use Rattle.soundness.specs.Steps.{mark_of, Adds, Room, total_of, visits, stores, Piece, Head, Tree, root_fewest, Rooted}
+use Rattle.soundness.specs.Steps.{mark_of, Adds, Room, total_of, visits, stores, IsPiece, Head, Tree, root_fewest, Rooted}
 use Rattle.soundness.proofs.Words.{first_word, pages-word, pieces-word, tail-words}
 use Rattle.soundness.proofs.Walks.{Child}
 
@@ -55,7 +55,7 @@ module _ (w : List ℕ) (long : TABLE_WORDS ≤ length w) (s : T (sound w)) wher
   unfolding Tree
   sound-tree zero p pl e = (
     sound-head 0 p pl e,
-    rw (← leaf-pieces (page (table_in w) p) e) (every-both (λ x. T (valid x.rect)) (λ x. x.r < PIECES) Piece (λ x a b. (a, b)) (piece_entries (page (table_in w) p)) (F.valids p pl) (F.numbers p pl)),
+    rw (← leaf-pieces (page (table_in w) p) e) (every-both (λ x. T (valid x.rect)) (λ x. x.r < PIECES) IsPiece (λ x a b. (a, b)) (piece_entries (page (table_in w) p)) (F.valids p pl) (F.numbers p pl)),
   )
   sound-tree (suc l) p pl e = (
     sound-head (suc l) p pl e,

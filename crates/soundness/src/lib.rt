@@ -9,7 +9,7 @@ ghost use Rattle.pages.specs.Layout.{table_in};
 ghost use Rattle.pages.specs.Left.{left};
 ghost use Rattle.pages.specs.Sound.{is, zeros, sound};
 ghost use Rattle.soundness.specs.Calls.{checked_of, check_call};
-ghost use Rattle.soundness.specs.Steps.{Piece, shaped, Head, Tested, LeafTested, Visited, Complete, root_fewest, Rooted};
+ghost use Rattle.soundness.specs.Steps.{IsPiece, shaped, Head, Tested, LeafTested, Visited, Complete, root_fewest, Rooted};
 
 mod table;
 
@@ -73,7 +73,7 @@ fn mark(marks: &mut [bool], i: usize) -> bool
 
 // The tests of an entry in a leaf: its number, its rectangle, and that the number was not met before.
 fn take_piece(e: Entry, numbers: &mut [bool; NUMBERS]) -> bool
-    ensures { Tested PIECES (Piece e) (λ c. is c e) numbers.old result numbers.new }
+    ensures { Tested PIECES (IsPiece e) (λ c. is c e) numbers.old result numbers.new }
 {
     e.r < pages::PIECES && e.rect.is_valid() && mark(numbers, e.r as usize)
 }
