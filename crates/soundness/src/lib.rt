@@ -1,11 +1,11 @@
 // The check call: one walk over the pages from the root, which tests all that soundness asks.
 #![tactic(auto)]
 
-ghost use Rattle.std.specs.Prelude.{◌≡◌, ◌+◌, ◌*◌, ◌≤◌, ◌<◌, ◌↔◌, IsTrue, false, true, not, length, get_or, set, eqb};
+ghost use Rattle.std.specs.Prelude.{◌≡◌, ◌≤◌, ◌<◌, ◌↔◌, IsTrue, IfSome, is_some, false, true, not, length, get_or, set, eqb};
 ghost use Rattle.std.specs.List.{count_by};
 ghost use Rattle.pages.specs.Sizes.{PIECES, FANOUT, PAGES, TABLE_WORDS};
 ghost use Rattle.pages.specs.Lists.{one};
-ghost use Rattle.pages.specs.Layout.{table_in};
+ghost use Rattle.pages.specs.Layout.{page, table_in};
 ghost use Rattle.pages.specs.Left.{left};
 ghost use Rattle.pages.specs.Sound.{is, zeros, sound};
 ghost use Rattle.soundness.specs.Calls.{checked_of, check_call};
@@ -113,15 +113,22 @@ struct Walk<'a> {
     ghost most: { k ≤ PAGES },
 }
 
-impl Walk<'_> {
-    // The tests of page p itself: its number, that it was not visited before, and its shape.
-    fn enter(&mut self, level: u32, least: u32, p: u32) -> bool
-        ensures tested { Tested PAGES (Head self.old.table.now level least p) (λ q. one (eqb p q)) self.old.seen result self.new.seen }
+impl<'a> Walk<'a> {
+    // The entries of page p, if it passes its own tests: its number, that it was not visited before, and its shape.
+    #[tactic(auto, using(crate::proofs::Heads::entries_are))]
+    fn enter(&mut self, level: u32, least: u32, p: u32) -> Option<PageEntries<'a>>
+        ensures tested { Tested PAGES (Head self.old.table.now level least p) (λ q. one (eqb p q)) self.old.seen (is_some result) self.new.seen }
+        ensures entries { IfSome result (λ entries. left entries ≡ (page (table_in self.old.table.now) p).entries) }
         ensures same { (self.new.table.now ≡ self.old.table.now) × (self.new.numbers ≡ self.old.numbers) }
     {
-        p < self.k
-            && mark(&mut self.seen, p as usize)
-            && is_shaped(pages::page_of(self.table, p as usize), level, least)
+        if p >= self.k || !mark(&mut self.seen, p as usize) {
+            return None;
+        }
+        let page = pages::page_of(self.table, p as usize);
+        if !is_shaped(page, level, least) {
+            return None;
+        }
+        Some(pages::entries_of(page, page[COUNT] as usize))
     }
 
     // The walk from page p, at a level, to all that is under it: the bounds of its entries, if all is good.
@@ -129,18 +136,13 @@ impl Walk<'_> {
         ensures visited { Visited self.old.table.now level least p self.old.seen self.old.numbers result self.new.seen self.new.numbers }
         ensures same { self.new.table.now ≡ self.old.table.now }
     {
-        if !self.enter(level, least, p) {
-            return None;
-        }
-        let page = pages::page_of(self.table, p as usize);
-        let entries = pages::entries_of(page, page[COUNT] as usize);
+        let entries = self.enter(level, least, p)?;
         if level == 0 {
             return leaf(entries, &mut self.numbers);
         }
         for e in entries {
-            let child = self.visit(level - 1, FEWEST, e.r)?;
             // "An entry above the leaves holds exactly the bounding rectangle of its child's entries".
-            if e.rect != child {
+            if self.visit(level - 1, FEWEST, e.r)? != e.rect {
                 return None;
             }
         }
