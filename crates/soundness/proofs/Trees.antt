@@ -85,7 +85,7 @@ record Good (w : List ℕ) (q : ℕ) : Type 0 where
   low : l ≤ TOP_LEVEL
   enough : fewest (table_in w) q ≤ length (page (table_in w) q).entries
 
-module _ (w : List ℕ) (k root h : ℕ) (R : Rooted w k root h) (t : Tree w h (root_fewest h) root) (once : (q : ℕ) → q < length (table_in w).pages → visits w h root q ≡ 1) where
+module _ (w : List ℕ) (k root h : ℕ) (R : Rooted w k root h) (long : TABLE_WORDS ≤ length w) (t : Tree w h (root_fewest h) root) (once : (q : ℕ) → q < length (table_in w).pages → visits w h root q ≡ 1) where
   good-root : Good w root
   unfolding fewest
   good-root = record {
@@ -138,7 +138,7 @@ module _ (w : List ℕ) (k root h : ℕ) (R : Rooted w k root h) (t : Tree w h (
       ∙ (sym (seen_all (table_in w) top lower inside (λ q. sum (is c) (piece_entries (page (table_in w) q))) h root r.inside r.level once) ∙ sym (under-seen w (is c) h (root_fewest h) root t))
 
   below : (q : ℕ) → q < get_or (take TABLE_WORDS w) 0 0 → q < length (table_in w).pages
-  below q ql = omega (arith, ql, pages-word w R.long, first_word w)
+  below q ql = omega (arith, ql, pages-word w long, first_word w)
 
   most : length (table_in w).pages ≤ PAGES
   most = omega (arith, R.most, R.count)
@@ -176,6 +176,6 @@ module _ (w : List ℕ) (k root h : ℕ) (R : Rooted w k root h) (t : Tree w h (
   tree-sound one_each count rest =
       and (sound_table (table_in w)) (all_of (sound_blank (take TABLE_WORDS w))) (sound-of (table_in w) (tree-facts one_each count))
       (all-of (sound_blank (take TABLE_WORDS w)) (
-        below_all (get_or (take TABLE_WORDS w) 0 0) _ (λ q ql. subst T (sym (tail-words w R.long q (below q ql) most)) (head q (below q ql)).blank),
-        (subst (λ n. T (zeros (drop (TABLE_HEAD + PAGE_WORDS * n) (take TABLE_WORDS w)))) (R.count ∙ (pages-word w R.long ∙ sym (first_word w))) rest, tt),
+        below_all (get_or (take TABLE_WORDS w) 0 0) _ (λ q ql. subst T (sym (tail-words w long q (below q ql) most)) (head q (below q ql)).blank),
+        (subst (λ n. T (zeros (drop (TABLE_HEAD + PAGE_WORDS * n) (take TABLE_WORDS w)))) (R.count ∙ (pages-word w long ∙ sym (first_word w))) rest, tt),
       ))

@@ -3,7 +3,7 @@ use Rattle.std.specs.Prelude.{ℕ, zero, suc, ◌+◌, ◌*◌, ◌≤◌, ◌<�
 use Rattle.pages.specs.Under.{under, seen}
 use Rattle.pages.specs.declared.Rect.{Rect}
 use Rattle.pages.specs.declared.Entry.{Entry}
-use Rattle.pages.specs.Sizes.{PIECES, PAGE_HEAD, FANOUT, ENTRY_WORDS, PAGES, TABLE_WORDS, TOP_LEVEL, FEWEST, ROOT_LEAST}
+use Rattle.pages.specs.Sizes.{PIECES, PAGE_HEAD, FANOUT, ENTRY_WORDS, PAGES, TOP_LEVEL, FEWEST, ROOT_LEAST}
 use Rattle.pages.specs.Lists.{one, sum, sum_below, Every}
 use Rattle.pages.specs.Rectangles.{valid, bounds}
 use Rattle.pages.specs.Layout.{page, page_words, table_in}
@@ -81,7 +81,6 @@ root_fewest l = cond (eqb l 0) 0 ROOT_LEAST
 
 -- k, the root and its level as the words have them, within their limits
 pub record Rooted (w : List ℕ) (k root level : ℕ) : Type 0 where
-  pub long : TABLE_WORDS ≤ length w
   pub count : k ≡ length (table_in w).pages
   pub most : k ≤ PAGES
   pub is : root ≡ (table_in w).root

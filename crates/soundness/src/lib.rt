@@ -104,11 +104,10 @@ fn is_shaped(page: &[u32; PAGE_WORDS], level: u32, least: u32) -> bool
 // A table with k pages, and the marks that a walk over it leaves: the pages visited, the piece numbers met.
 #[derive(Drop)]
 struct Walk<'a> {
-    table: &'a [u32],
+    table: &'a [u32; TABLE_WORDS],
     k: u32,
     seen: [bool; PAGES],
     numbers: [bool; NUMBERS],
-    ghost long: { TABLE_WORDS ≤ length table.now },
     ghost count: { k ≡ length (table_in table.now).pages },
     ghost most: { k ≤ PAGES },
 }
@@ -124,7 +123,8 @@ impl<'a> Walk<'a> {
         if p >= self.k || !mark(&mut self.seen, p as usize) {
             return None;
         }
-        let page = pages::page_of(self.table, p as usize);
+        let table = self.table;
+        let page = pages::page_of(table, p as usize);
         if !is_shaped(page, level, least) {
             return None;
         }
@@ -167,7 +167,7 @@ fn root_fewest(level: u32) -> u32
 }
 
 // The walk from the root, then what it leaves, and that the pages from k on are zero.
-fn is_sound_from(table: &[u32], k: u32, root: u32, level: u32) -> bool
+fn is_sound_from(table: &[u32; TABLE_WORDS], k: u32, root: u32, level: u32) -> bool
     requires { Rooted table.now k root level }
     ensures { result ≡ sound table.now }
 {
@@ -179,13 +179,12 @@ fn is_sound_from(table: &[u32], k: u32, root: u32, level: u32) -> bool
     };
     walk.visit(level, root_fewest(level), root).is_some()
         && walk.is_complete()
-        && is_blank(&table[TABLE_HEAD + PAGE_WORDS * (k as usize)..TABLE_WORDS])
+        && is_blank(&table[TABLE_HEAD + PAGE_WORDS * (k as usize)..])
 }
 
-// Whether the first words of the slice are a sound table.
+// Whether the words are a sound table.
 #[tactic(auto, using(crate::proofs::Decides::count_refuses, crate::proofs::Decides::root_refuses, crate::proofs::Decides::level_refuses))]
-fn is_sound(table: &[u32]) -> bool
-    requires { TABLE_WORDS ≤ length table.now }
+fn is_sound(table: &[u32; TABLE_WORDS]) -> bool
     ensures { result ≡ sound table.now }
 {
     let k = table[PAGE_COUNT];
@@ -197,16 +196,15 @@ fn is_sound(table: &[u32]) -> bool
     level <= TOP_LEVEL && is_sound_from(table, k, root, level)
 }
 
-/// Whether the table is sound, and then how many pieces it has.
-#[tactic(auto, using(crate::proofs::Answers::answer_short, crate::proofs::Answers::answer_unsound, crate::proofs::Answers::answer_words))]
+/// Whether the first words of the slice are a sound table, and then how many pieces it has.
 pub fn check(table: &[u32]) -> Result<u32, Refusal>
     ensures { checked_of result ≡ check_call table.now }
 {
-    if table.len() < TABLE_WORDS {
+    let Some(words) = table.first_chunk::<TABLE_WORDS>() else {
         return Err(Refusal::TableTooShort);
-    }
-    if !is_sound(table) {
+    };
+    if !is_sound(words) {
         return Err(Refusal::TableNotSound);
     }
-    Ok(table[PIECE_COUNT])
+    Ok(words[PIECE_COUNT])
 }
