@@ -3,7 +3,7 @@
 
 ghost use Rattle.std.specs.Prelude.{◌≡◌, ◌≤◌, ◌<◌, ◌↔◌, IsTrue, IfSome, is_some, false, true, not, length, get_or, set, eqb};
 ghost use Rattle.std.specs.List.{count_by};
-ghost use Rattle.pages.specs.Sizes.{PIECES, FANOUT, PAGES, TABLE_WORDS};
+ghost use Rattle.pages.specs.Sizes.{PIECES, PAGES};
 ghost use Rattle.pages.specs.Lists.{one};
 ghost use Rattle.pages.specs.Layout.{page, table_in};
 ghost use Rattle.pages.specs.Left.{left};
@@ -23,7 +23,7 @@ pub use table::SoundTable;
 
 /// What C gets of what check returns: a count of 6 is no refusal 6, so they stand apart.
 #[repr(C)]
-#[derive(Drop)]
+#[derive(Clone, Copy, Debug, PartialEq, Eq)]
 pub struct Checked {
     pub refusal: u32,
     pub pieces: u32,
