@@ -7,9 +7,11 @@ use mathlib.Core.Logic.{◌≢◌}
 use mathlib.Core.Bool.{Bool, true, false, cond}
 use mathlib.Core.List.{List}
 use lib.ListN.{length, get_or}
+use lib.Seq.{get_or-take}
 use lib.Dec.{T, ltb}
 use borrow.Author.Tests.{lt-ltb, le-ltb}
 use Rattle.std.specs.Prelude.{Ok, Err}
+use Rattle.std.specs.Array.{IsFirstChunk}
 use Rattle.refusals.specs.declared.Refusal.{Refusal}
 use Rattle.refusals.specs.Numbers.{number_of}
 use Rattle.refusals.proofs.Numbers.{number-some}
@@ -21,6 +23,7 @@ use Rattle.pages.proofs.Lists.{true-T, T_true, false-T, T_false}
 use Rattle.soundness.specs.declared.Checked.{Checked}
 use Rattle.soundness.specs.Calls.{checked_of, check_call}
 use Rattle.soundness.proofs.Words.{pieces-word}
+use Rattle.soundness.proofs.Firsts.{sound-firsts}
 
 abbrev too_short : Checked
 too_short = record { refusal = TABLE_TOO_SHORT; pieces = 0 }
@@ -38,14 +41,24 @@ module _ (w : List ℕ) (long : TABLE_WORDS ≤ length w) where
   unfolding check_call
   answer-long = ap (λ b. cond b too_short (cond (sound w) (record { refusal = ACCEPTED; pieces = (table_in w).count }) not_sound)) (le-ltb (length w) TABLE_WORDS long)
 
-  pub answer_unsound : sound w ≡ false → check_call w ≡ record { refusal = TABLE_NOT_SOUND; pieces = 0 }
-  answer_unsound e = answer-long ∙ ap (λ b. cond b (record { refusal = ACCEPTED; pieces = (table_in w).count }) not_sound) e
+  answer-unsound : sound w ≡ false → check_call w ≡ not_sound
+  answer-unsound e = answer-long ∙ ap (λ b. cond b (record { refusal = ACCEPTED; pieces = (table_in w).count }) not_sound) e
 
   answer-sound : sound w ≡ true → check_call w ≡ record { refusal = ACCEPTED; pieces = (table_in w).count }
   answer-sound e = answer-long ∙ ap (λ b. cond b (record { refusal = ACCEPTED; pieces = (table_in w).count }) not_sound) e
 
-  pub answer_words : sound w ≡ true → check_call w ≡ record { refusal = ACCEPTED; pieces = get_or w 2 0 }
-  answer_words e = answer-sound e ∙ (λ i. record { refusal = ACCEPTED; pieces = pieces-word w long i })
+-- the last two by the first words, v
+module _ (w : List ℕ) {v : List ℕ} (first : IsFirstChunk w v TABLE_WORDS) where
+  same : sound w ≡ sound v
+  same = sym (ap sound first.same ∙ sound-firsts w)
+
+  pub answer_unsound : sound v ≡ false → check_call w ≡ record { refusal = TABLE_NOT_SOUND; pieces = 0 }
+  answer_unsound e = answer-unsound w first.enough (same ∙ e)
+
+  pub answer_words : sound v ≡ true → check_call w ≡ record { refusal = ACCEPTED; pieces = get_or v 2 0 }
+  answer_words e =
+      let pieces : (table_in w).count ≡ get_or v 2 0 = pieces-word w first.enough ∙ sym (ap (λ x. get_or x 2 0) first.same ∙ get_or-take TABLE_WORDS w 2 0 (omega arith)) in
+      answer-sound w first.enough (same ∙ e) ∙ (λ i. record { refusal = ACCEPTED; pieces = pieces i })
 
 -- and there is no fourth one
 answers : (w : List ℕ) (P : Checked → Type 0) → (length w < TABLE_WORDS → P too_short) → (TABLE_WORDS ≤ length w → (T (sound w) → ⊥) → P not_sound)
@@ -54,7 +67,7 @@ answers w P a b c = go (dec_lt (length w) TABLE_WORDS)
   where
     decided : TABLE_WORDS ≤ length w → (t : Bool) → sound w ≡ t → P (check_call w)
     decided l true e = subst P (sym (answer-sound w l e)) (c l (true-T (sound w) e))
-    decided l false e = subst P (sym (answer_unsound w l e)) (b l (false-T (sound w) e))
+    decided l false e = subst P (sym (answer-unsound w l e)) (b l (false-T (sound w) e))
 
     go : Dec (length w < TABLE_WORDS) → P (check_call w)
     go (yes l) = subst P (sym (answer_short w l)) (a l)

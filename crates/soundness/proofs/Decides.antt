@@ -3,9 +3,9 @@ use Prim.Native.Nat.{ℕ, ◌+◌, ◌-◌, ◌*◌, ◌≤◌, ◌<◌}
 use native.Mathlib.Omega.{arith}
 use mathlib.Core.Path.{◌≡◌, sym, ap, subst, ◌∙◌}
 use mathlib.Core.Bool.{Bool, true, false}
-use mathlib.Core.List.{List, ◌++◌}
-use lib.ListN.{length, get_or, take, drop, length-take, length-drop, take-append-drop}
-use lib.Seq.{take_at, drop-append-le}
+use mathlib.Core.List.{List}
+use lib.ListN.{length, get_or, take, drop, length-drop}
+use lib.Seq.{take_all}
 use lib.Dec.{T}
 use Rattle.pages.specs.Sizes.{PIECES, PAGE_WORDS, TABLE_HEAD, PAGES, TABLE_WORDS, TOP_LEVEL}
 use Rattle.pages.specs.Layout.{page, page_words, table_in}
@@ -22,21 +22,16 @@ use Rattle.soundness.proofs.Counts.{all_one}
 use Rattle.soundness.proofs.Trees.{tree-sound}
 use Rattle.soundness.proofs.Passes.{rest-zero, root-tree, room-pages, room-pieces, pages-total, pieces-total}
 
--- the words from a on, of the first n
-front-part : (w : List ℕ) (n a : ℕ) → n ≤ length w → a ≤ n → take (n - a) (drop a w) ≡ drop a (take n w)
-front-part w n a l k =
-    let x : List ℕ = take n w in
-    let xl : length x ≡ n = omega (arith, length-take n w) in
-    let e : drop a w ≡ drop a x ++ drop n w = ap (drop a) (sym (take-append-drop n w)) ∙ drop-append-le a x (drop n w) (omega arith) in
-    ap (take (n - a)) e ∙ take_at (drop a x) (drop n w) (n - a) (omega (arith, length-drop a x))
-
-module _ {w : List ℕ} {k root h : ℕ} (R : Rooted w k root h) {s₀ n₀ s₁ n₁ : List Bool} {v : Option Rect}
+module _ {w : List ℕ} {k root h : ℕ} (R : Rooted w k root h) (size : length w ≡ TABLE_WORDS) {s₀ n₀ s₁ n₁ : List Bool} {v : Option Rect}
     (sz : (q : ℕ) → mark_of s₀ q ≡ 0) (nz : (c : ℕ) → mark_of n₀ c ≡ 0) {m : ℕ} (me : m ≡ root_fewest h) (y : Visited w h m root s₀ n₀ v s₁ n₁) where
+  long : TABLE_WORDS ≤ length w
+  long = omega (arith, size)
+
   x : Visited w h (root_fewest h) root s₀ n₀ v s₁ n₁
   x = subst (λ a. Visited w h a root s₀ n₀ v s₁ n₁) me y
 
   pub walk_refuses : is_some v ≡ false → false ≡ sound w
-  walk_refuses f = sym (T_false (sound w) (λ s. x.no f (root-tree w k root h R s) (room-pages w k root h R s s₀ sz) (room-pieces w k root h R s n₀ nz)))
+  walk_refuses f = sym (T_false (sound w) (λ s. x.no f (root-tree w k root h R long s) (room-pages w k root h R long s s₀ sz) (room-pieces w k root h R long s n₀ nz)))
 
   -- the walk has the table and its count of pages to the end
   module _ (good : is_some v ≡ true) {w' : List ℕ} (same : w' ≡ w) {k' : ℕ} (count : k' ≡ length (table_in w').pages) where
@@ -45,8 +40,8 @@ module _ {w : List ℕ} {k root h : ℕ} (R : Rooted w k root h) {s₀ n₀ s₁
 
     pub marks_refuse : (Complete w' k' s₁ n₁ → ⊥) → false ≡ sound w
     marks_refuse f = sym (T_false (sound w) (λ s. f (
-      subst (λ a. total_of s₁ a ≡ a) (sym k-same) (pages-total w k root h R s s₀ sz s₁ (x.yes good).1),
-      pieces-total w k root h R s n₀ nz n₁ (x.yes good).2 ∙ ap (λ a. get_or a 2 0) (sym same),
+      subst (λ a. total_of s₁ a ≡ a) (sym k-same) (pages-total w k root h R long s s₀ sz s₁ (x.yes good).1),
+      pieces-total w k root h R long s n₀ nz n₁ (x.yes good).2 ∙ ap (λ a. get_or a 2 0) (sym same),
     )))
 
     visits-mark : (q : ℕ) → q < length (table_in w).pages → mark_of s₁ q ≡ 1 → visits w h root q ≡ 1
@@ -65,15 +60,14 @@ module _ {w : List ℕ} {k root h : ℕ} (R : Rooted w k root h) {s₀ n₀ s₁
     pub rest_decides : Complete w' k' s₁ n₁ → {b : Bool}
         → b ≡ zeros (take (TABLE_WORDS - (TABLE_HEAD + PAGE_WORDS * k)) (drop (TABLE_HEAD + PAGE_WORDS * k) w)) → b ≡ sound w
     unfolding total_of
-    rest_decides t {b} e = go b (e ∙ ap zeros (front-part w TABLE_WORDS (TABLE_HEAD + PAGE_WORDS * k) R.long fits))
+    rest_decides t {b} e =
+        let a : ℕ = TABLE_HEAD + PAGE_WORDS * k in
+        go b (e ∙ ap zeros (take_all (TABLE_WORDS - a) (drop a w) (omega (arith, size, length-drop a w)) ∙ ap (drop a) (sym (take_all TABLE_WORDS w (omega (arith, size))))))
       where
-        fits : TABLE_HEAD + PAGE_WORDS * k ≤ TABLE_WORDS
-        fits = omega (arith, R.most)
-
         go : (b : Bool) → b ≡ zeros (drop (TABLE_HEAD + PAGE_WORDS * k) (take TABLE_WORDS w)) → b ≡ sound w
-        go true z = sym (T_true (sound w) (tree-sound w k root h R (x.yes good).0 (once (subst (λ a. total_of s₁ a ≡ a) k-same t.0)) stores-few
-            (pieces-word w R.long ∙ (ap (λ a. get_or a 2 0) (sym same) ∙ (sym t.1 ∙ below-same PIECES (mark_of n₁) (stores w h root) stores-mark))) (true-T _ (sym z))))
-        go false z = sym (T_false (sound w) (λ s. false-T _ (sym z) (subst (λ n. T (zeros (drop (TABLE_HEAD + PAGE_WORDS * n) (take TABLE_WORDS w)))) (sym R.count) (rest-zero w R.long s))))
+        go true z = sym (T_true (sound w) (tree-sound w k root h R long (x.yes good).0 (once (subst (λ a. total_of s₁ a ≡ a) k-same t.0)) stores-few
+            (pieces-word w long ∙ (ap (λ a. get_or a 2 0) (sym same) ∙ (sym t.1 ∙ below-same PIECES (mark_of n₁) (stores w h root) stores-mark))) (true-T _ (sym z))))
+        go false z = sym (T_false (sound w) (λ s. false-T _ (sym z) (subst (λ n. T (zeros (drop (TABLE_HEAD + PAGE_WORDS * n) (take TABLE_WORDS w)))) (sym R.count) (rest-zero w long s))))
 
 -- the tests before the walk
 module _ (w : List ℕ) (long : TABLE_WORDS ≤ length w) where
@@ -91,4 +85,4 @@ module _ (w : List ℕ) (long : TABLE_WORDS ≤ length w) where
     level_refuses f = sym (T_false (sound w) (λ s. omega (arith, f, root-level, (sound-in w s).levels (get_or w 1 0) (omega (arith, pages-word w long)))))
 
     pub rooted : get_or pg 0 0 ≤ TOP_LEVEL → Rooted w (get_or w 0 0) (get_or w 1 0) (get_or pg 0 0)
-    rooted f = record { long = long; count = sym (pages-word w long); most = most; is = sym (root-word w long); below = below; at = sym root-level; low = f }
+    rooted f = record { count = sym (pages-word w long); most = most; is = sym (root-word w long); below = below; at = sym root-level; low = f }

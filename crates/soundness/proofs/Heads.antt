@@ -2,23 +2,25 @@
 use Prim.Native.Nat.{ℕ, ◌+◌, ◌-◌, ◌*◌, ◌≤◌, ◌<◌}
 use native.Mathlib.Omega.{arith}
 use mathlib.Core.Path.{◌≡◌, sym, ap, subst, ◌∙◌}
-use mathlib.Core.Bool.{Bool}
+use mathlib.Core.Bool.{Bool, true, false, not}
 use mathlib.Core.List.{List}
-use lib.ListN.{length, get_or, take, drop, length-drop}
+use lib.ListN.{length, get_or, set, take, drop, length-drop}
 use lib.Seq.{take_all}
 use lib.Dec.{T, leb, eqb}
 use borrow.Author.Tests.{leb-true, le-leb, eqb-true, eq-eqb}
 use Rattle.std.specs.Prelude.{◌↔◌, IsTrue}
+use Rattle.std.proofs.lemmas.Grind.{common_steps}
 use Rattle.pages.specs.Sizes.{PAGE_HEAD, FANOUT, ENTRY_WORDS, PAGE_WORDS, PAGES, TABLE_WORDS}
+use Rattle.pages.specs.Lists.{one}
 use Rattle.pages.specs.Layout.{page, page_words, table_in}
 use Rattle.pages.specs.Readers.{entries_in}
 use Rattle.pages.specs.Sound.{zeros}
 use Rattle.pages.proofs.Lists.{true-T, T_true, both, and}
-use Rattle.soundness.specs.Steps.{shaped, Head}
+use Rattle.soundness.specs.Steps.{shaped, Head, Tested}
 use Rattle.soundness.proofs.Words.{level-word, size_word, entries-words}
 
 -- what the tests of its words say of a page
-pub shaped_head : (w : List ℕ) (l m p : ℕ) → TABLE_WORDS ≤ length w → p < length (table_in w).pages → length (table_in w).pages ≤ PAGES → IsTrue (shaped (page_words w p) l m) ↔ Head w l m p
+shaped_head : (w : List ℕ) (l m p : ℕ) → TABLE_WORDS ≤ length w → p < length (table_in w).pages → length (table_in w).pages ≤ PAGES → IsTrue (shaped (page_words w p) l m) ↔ Head w l m p
 shaped_head w l m p long inside most = (made, tests)
   where
     n : ℕ
@@ -50,6 +52,13 @@ shaped_head w l m p long inside most = (made, tests)
         (and (leb m n) _ (true-T _ (le-leb m n (omega (arith, size-is, h.enough))))
         (and (leb n FANOUT) _ (true-T _ (le-leb n FANOUT (omega (arith, size-is, h.eight)))) (subst tail size-is h.blank))))
 
+-- of a page with its first mark these tests decide
+pub head_marked : (w : List ℕ) (l m p : ℕ) {pg : List ℕ} {h h' : List Bool} {b : Bool} → TABLE_WORDS ≤ length w → p < length (table_in w).pages → length (table_in w).pages ≤ PAGES
+    → pg ≡ page_words w p → b ≡ shaped pg l m → length h ≡ PAGES → true ≡ not (get_or h p false) → h' ≡ set h p true → Tested PAGES (Head w l m p) (λ q. one (eqb p q)) h b h'
+head_marked w l m p long inside most is e n fresh marked =
+    let s : IsTrue (shaped (page_words w p) l m) ↔ Head w l m p = shaped_head w l m p long inside most in
+    grind (arith, common_steps)
+
 -- the words of a page with this level and size are tested from the last entry on
 pub shaped_tail : (pg : List ℕ) (l m : ℕ) → length pg ≡ PAGE_WORDS → get_or pg 0 0 ≡ l → m ≤ get_or pg 1 0 → get_or pg 1 0 ≤ FANOUT
     → {b : Bool} → b ≡ zeros (take (PAGE_WORDS - (PAGE_HEAD + ENTRY_WORDS * get_or pg 1 0)) (drop (PAGE_HEAD + ENTRY_WORDS * get_or pg 1 0) pg)) → b ≡ shaped pg l m
@@ -58,9 +67,7 @@ shaped_tail pg l m long level enough eight z =
     z ∙ (ap zeros (take_all (PAGE_WORDS - a) (drop a pg) (omega (arith, length-drop a pg)))
     ∙ rw (eq-eqb (get_or pg 0 0) l level, le-leb m (get_or pg 1 0) enough, le-leb (get_or pg 1 0) FANOUT eight))
 
-module _ (w : List ℕ) (l m p : ℕ) (pg : List ℕ) (long : TABLE_WORDS ≤ length w) (most : length (table_in w).pages ≤ PAGES) (h : Head w l m p) (is : pg ≡ page_words w p) where
-  pub size_fits : get_or pg 1 0 ≤ FANOUT
-  size_fits = omega (arith, size_word w long p h.inside most, h.eight, ap (λ x. get_or x 1 0) is)
-
-  pub entries-are : (page (table_in w) p).entries ≡ entries_in pg (get_or pg 1 0)
-  entries-are = entries-words w long p h.inside most ∙ ap (λ x. entries_in x (get_or x 1 0)) (sym is)
+-- its entries by its words
+pub entries_are : (w : List ℕ) (p : ℕ) {pg : List ℕ} → TABLE_WORDS ≤ length w → p < length (table_in w).pages → length (table_in w).pages ≤ PAGES → pg ≡ page_words w p
+    → entries_in pg (get_or pg 1 0) ≡ (page (table_in w) p).entries
+entries_are w p long inside most is = ap (λ x. entries_in x (get_or x 1 0)) is ∙ sym (entries-words w long p inside most)

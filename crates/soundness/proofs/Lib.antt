@@ -10,4 +10,5 @@ pub mod Counts
 pub mod Trees
 pub mod Passes
 pub mod Decides
+pub mod Firsts
 pub mod Answers

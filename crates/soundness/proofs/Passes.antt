@@ -23,7 +23,7 @@ use Rattle.pages.proofs.Counting.{stored-sum, highest}
 use Rattle.pages.proofs.Entries.{Fits, leaf-pieces, fits-above}
 use Rattle.pages.proofs.Walk.{under-root}
 use Rattle.pages.proofs.Visit.{seen-root}
-use Rattle.soundness.specs.Steps.{mark_of, Adds, Room, total_of, visits, stores, Piece, Head, Tree, root_fewest, Rooted}
+use Rattle.soundness.specs.Steps.{mark_of, Adds, Room, total_of, visits, stores, IsPiece, Head, Tree, root_fewest, Rooted}
 use Rattle.soundness.proofs.Words.{first_word, pages-word, pieces-word, tail-words}
 use Rattle.soundness.proofs.Walks.{Child}
 
@@ -55,7 +55,7 @@ module _ (w : List ℕ) (long : TABLE_WORDS ≤ length w) (s : T (sound w)) wher
   unfolding Tree
   sound-tree zero p pl e = (
     sound-head 0 p pl e,
-    rw (← leaf-pieces (page (table_in w) p) e) (every-both (λ x. T (valid x.rect)) (λ x. x.r < PIECES) Piece (λ x a b. (a, b)) (piece_entries (page (table_in w) p)) (F.valids p pl) (F.numbers p pl)),
+    rw (← leaf-pieces (page (table_in w) p) e) (every-both (λ x. T (valid x.rect)) (λ x. x.r < PIECES) IsPiece (λ x a b. (a, b)) (piece_entries (page (table_in w) p)) (F.valids p pl) (F.numbers p pl)),
   )
   sound-tree (suc l) p pl e = (
     sound-head (suc l) p pl e,
@@ -67,12 +67,12 @@ module _ (w : List ℕ) (long : TABLE_WORDS ≤ length w) (s : T (sound w)) wher
           → ((page (table_in w) x.r).level ≡ l → Tree w l (fewest (table_in w) x.r) x.r) → Child w l x
       child x f b r = (subst (λ m. Tree w l m x.r) (not_root l p x.r pl e b) (r b), f.exact)
 
-module _ (w : List ℕ) (k root h : ℕ) (R : Rooted w k root h) (s : T (sound w)) where
+module _ (w : List ℕ) (k root h : ℕ) (R : Rooted w k root h) (long : TABLE_WORDS ≤ length w) (s : T (sound w)) where
   pub root-tree : Tree w h (root_fewest h) root
   unfolding fewest
   root-tree =
       let e : fewest (table_in w) root ≡ root_fewest h = rw (eq-eqb root (table_in w).root R.is, ← R.at) in
-      subst (λ m. Tree w h m root) e (sound-tree w R.long s h root (omega (arith, R.below, R.count)) (sym R.at))
+      subst (λ m. Tree w h m root) e (sound-tree w long s h root (omega (arith, R.below, R.count)) (sym R.at))
 
   -- what holds of the table's root, by the words
   from-root : (P : ℕ → ℕ → Type 0) → P (page (table_in w) (table_in w).root).level (table_in w).root → P h root
@@ -81,7 +81,7 @@ module _ (w : List ℕ) (k root h : ℕ) (R : Rooted w k root h) (s : T (sound w
   visits-are : (q : ℕ) → visits w h root q ≡ sum_below (length (table_in w).pages) (λ x. one (eqb x q))
   visits-are q =
       from-root (λ l p. seen (λ x. one (eqb x q)) (table_in w).pages l p ≡ sum_below (length (table_in w).pages) (λ x. one (eqb x q)))
-      (seen-root (table_in w) (F w R.long s) (λ x. one (eqb x q)))
+      (seen-root (table_in w) (F w long s) (λ x. one (eqb x q)))
 
   visits-one : (q : ℕ) → q < k → visits w h root q ≡ 1
   visits-one q ql = visits-are q ∙ below_one (length (table_in w).pages) q (λ x. 1) (omega (arith, R.count))
@@ -94,14 +94,14 @@ module _ (w : List ℕ) (k root h : ℕ) (R : Rooted w k root h) (s : T (sound w
       go (no a) = omega (arith, visits-are q, below_none (length (table_in w).pages) q (λ x. 1) (omega (arith, R.count)))
 
   stores-are : (c : ℕ) → stores w h root c ≡ stored (table_in w) c
-  stores-are c = from-root (λ l p. under (is c) (table_in w).pages l p ≡ stored (table_in w) c) (under-root (table_in w) (F w R.long s) (is c))
+  stores-are c = from-root (λ l p. under (is c) (table_in w).pages l p ≡ stored (table_in w) c) (under-root (table_in w) (F w long s) (is c))
 
   module _ (m₀ : List Bool) (none : (q : ℕ) → mark_of m₀ q ≡ 0) where
     pub room-pages : Room PAGES m₀ (visits w h root)
     room-pages q l = omega (arith, none q, visits-few q)
 
     pub room-pieces : Room PIECES m₀ (stores w h root)
-    room-pieces c l = omega (arith, none c, stores-are c, (F w R.long s).distinct c l)
+    room-pieces c l = omega (arith, none c, stores-are c, (F w long s).distinct c l)
 
     one-mark : (m₁ : List Bool) (q : ℕ) → Adds PAGES m₀ m₁ (visits w h root) → q < k → mark_of m₁ q ≡ 1
     one-mark m₁ q a l = omega (arith, none q, visits-one q l, a q (omega (arith, R.most)))
@@ -120,4 +120,4 @@ module _ (w : List ℕ) (k root h : ℕ) (R : Rooted w k root h) (s : T (sound w
     pub pieces-total : (m₁ : List Bool) → Adds PIECES m₀ m₁ (stores w h root) → total_of m₁ PIECES ≡ get_or w 2 0
     unfolding total_of
     pieces-total m₁ a = below-same PIECES (mark_of m₁) (stored (table_in w)) (λ c l. number-mark m₁ c a l)
-        ∙ (stored-sum (table_in w) PIECES (F w R.long s).numbers ∙ (sym (F w R.long s).counted ∙ pieces-word w R.long))
+        ∙ (stored-sum (table_in w) PIECES (F w long s).numbers ∙ (sym (F w long s).counted ∙ pieces-word w long))

@@ -21,7 +21,7 @@ use Rattle.pages.proofs.Facts.{Facts, sound-of}
 use Rattle.pages.proofs.Counting.{stored-sum}
 use Rattle.pages.proofs.Entries.{leaf-children, leaf-pieces, above-children, above-pieces}
 use Rattle.pages.proofs.Visit.{seen_all, named-once}
-use Rattle.soundness.specs.Steps.{visits, stores, Piece, Head, Tree, root_fewest, Rooted}
+use Rattle.soundness.specs.Steps.{visits, stores, IsPiece, Head, Tree, root_fewest, Rooted}
 use Rattle.soundness.proofs.Words.{first_word, pages-word, tail-words}
 use Rattle.soundness.proofs.Walks.{Child, tree-head}
 use Rattle.soundness.proofs.Counts.{under-seen}
@@ -72,7 +72,7 @@ module _ (w : List ℕ) where
     tree-exact : (l m : ℕ) → Tree w l m p → Every (λ e. e.rect ≡ bounds (page (table_in w) e.r).entries) (child_entries (page (table_in w) p))
     tree-exact l m t = tree-children (λ e. e.rect ≡ bounds (page (table_in w) e.r).entries) l m t (λ k z e c. c.1)
 
-    tree-pieces : (l m : ℕ) → Tree w l m p → Every Piece (piece_entries (page (table_in w) p))
+    tree-pieces : (l m : ℕ) → Tree w l m p → Every IsPiece (piece_entries (page (table_in w) p))
     unfolding Tree
     tree-pieces zero m t = rw (leaf-pieces (page (table_in w) p) t.0.level) t.1
     tree-pieces (suc l) m t = rw (above-pieces (page (table_in w) p) l t.0.level) tt
@@ -85,7 +85,7 @@ record Good (w : List ℕ) (q : ℕ) : Type 0 where
   low : l ≤ TOP_LEVEL
   enough : fewest (table_in w) q ≤ length (page (table_in w) q).entries
 
-module _ (w : List ℕ) (k root h : ℕ) (R : Rooted w k root h) (t : Tree w h (root_fewest h) root) (once : (q : ℕ) → q < length (table_in w).pages → visits w h root q ≡ 1) where
+module _ (w : List ℕ) (k root h : ℕ) (R : Rooted w k root h) (long : TABLE_WORDS ≤ length w) (t : Tree w h (root_fewest h) root) (once : (q : ℕ) → q < length (table_in w).pages → visits w h root q ≡ 1) where
   good-root : Good w root
   unfolding fewest
   good-root = record {
@@ -122,11 +122,11 @@ module _ (w : List ℕ) (k root h : ℕ) (R : Rooted w k root h) (t : Tree w h (
   inside : (q : ℕ) → q < length (table_in w).pages → Every (λ e. e.r < length (table_in w).pages) (child_entries (page (table_in w) q))
   inside q ql = tree-inside w q (good-page q ql).l (good-page q ql).m (good-page q ql).tree
 
-  pieces-good : (q : ℕ) → q < length (table_in w).pages → Every Piece (piece_entries (page (table_in w) q))
+  pieces-good : (q : ℕ) → q < length (table_in w).pages → Every IsPiece (piece_entries (page (table_in w) q))
   pieces-good q ql = tree-pieces w q (good-page q ql).l (good-page q ql).m (good-page q ql).tree
 
   numbers : (q : ℕ) → q < length (table_in w).pages → Every (λ e. e.r < PIECES) (piece_entries (page (table_in w) q))
-  numbers q ql = every_map Piece (λ e. e.r < PIECES) (λ e z. z.1) (piece_entries (page (table_in w) q)) (pieces-good q ql)
+  numbers q ql = every_map IsPiece (λ e. e.r < PIECES) (λ e z. z.1) (piece_entries (page (table_in w) q)) (pieces-good q ql)
 
   top : (table_in w).root < length (table_in w).pages
   top = omega (arith, R.below, R.count, R.is)
@@ -138,7 +138,7 @@ module _ (w : List ℕ) (k root h : ℕ) (R : Rooted w k root h) (t : Tree w h (
       ∙ (sym (seen_all (table_in w) top lower inside (λ q. sum (is c) (piece_entries (page (table_in w) q))) h root r.inside r.level once) ∙ sym (under-seen w (is c) h (root_fewest h) root t))
 
   below : (q : ℕ) → q < get_or (take TABLE_WORDS w) 0 0 → q < length (table_in w).pages
-  below q ql = omega (arith, ql, pages-word w R.long, first_word w)
+  below q ql = omega (arith, ql, pages-word w long, first_word w)
 
   most : length (table_in w).pages ≤ PAGES
   most = omega (arith, R.most, R.count)
@@ -163,7 +163,7 @@ module _ (w : List ℕ) (k root h : ℕ) (R : Rooted w k root h) (t : Tree w h (
     enough = λ q ql. (good-page q ql).enough;
     eight = λ q ql. (head q ql).eight;
     exact = λ q ql. tree-exact w q (good-page q ql).l (good-page q ql).m (good-page q ql).tree;
-    valids = λ q ql. every_map Piece (λ e. T (valid e.rect)) (λ e z. z.0) (piece_entries (page (table_in w) q)) (pieces-good q ql);
+    valids = λ q ql. every_map IsPiece (λ e. T (valid e.rect)) (λ e z. z.0) (piece_entries (page (table_in w) q)) (pieces-good q ql);
     numbers = numbers;
     distinct = single one_each;
     counted = count ∙ (below-same PIECES (stores w h root) (stored (table_in w)) (λ c l. sym (stored_is c)) ∙ stored-sum (table_in w) PIECES numbers);
@@ -176,6 +176,6 @@ module _ (w : List ℕ) (k root h : ℕ) (R : Rooted w k root h) (t : Tree w h (
   tree-sound one_each count rest =
       and (sound_table (table_in w)) (all_of (sound_blank (take TABLE_WORDS w))) (sound-of (table_in w) (tree-facts one_each count))
       (all-of (sound_blank (take TABLE_WORDS w)) (
-        below_all (get_or (take TABLE_WORDS w) 0 0) _ (λ q ql. subst T (sym (tail-words w R.long q (below q ql) most)) (head q (below q ql)).blank),
-        (subst (λ n. T (zeros (drop (TABLE_HEAD + PAGE_WORDS * n) (take TABLE_WORDS w)))) (R.count ∙ (pages-word w R.long ∙ sym (first_word w))) rest, tt),
+        below_all (get_or (take TABLE_WORDS w) 0 0) _ (λ q ql. subst T (sym (tail-words w long q (below q ql) most)) (head q (below q ql)).blank),
+        (subst (λ n. T (zeros (drop (TABLE_HEAD + PAGE_WORDS * n) (take TABLE_WORDS w)))) (R.count ∙ (pages-word w long ∙ sym (first_word w))) rest, tt),
       ))

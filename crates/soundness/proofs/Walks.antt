@@ -6,23 +6,20 @@ use mathlib.Core.Path.{◌≡◌, refl, sym, ap, subst, ◌∙◌}
 use mathlib.Core.Bool.{Bool, true, false, ◌&&◌, not}
 use Rattle.std.specs.Prelude.{Option, Some, None}
 use mathlib.Core.List.{List, [], ◌∷◌}
-use lib.ListN.{length, get_or}
 use lib.Dec.{T, eqb}
 use borrow.Author.Tests.{not-true, not-false}
 use Rattle.pages.specs.Under.{under, seen}
 use Rattle.pages.specs.declared.Rect.{Rect}
 use Rattle.pages.specs.declared.Entry.{Entry}
-use Rattle.pages.specs.Sizes.{PIECES, FANOUT, PAGES, TABLE_WORDS, FEWEST}
+use Rattle.pages.specs.Sizes.{PIECES, PAGES, FEWEST}
 use Rattle.pages.specs.Lists.{one, sum, Every}
 use Rattle.pages.specs.Rectangles.{same_rect, bounds}
-use Rattle.pages.specs.Layout.{page, page_words, table_in}
-use Rattle.pages.specs.Readers.{entries_in}
+use Rattle.pages.specs.Layout.{page, table_in}
 use Rattle.pages.proofs.Lists.{not-both, true-T, false-T}
 use Rattle.pages.proofs.Facts.{same-rect, rect-same}
 use Rattle.pages.proofs.Rectangles.{equal_rects}
 use Rattle.soundness.specs.Steps.{Adds, Room, visits, stores, Head, Tree, Tested, LeafTested, Visited}
 use Rattle.soundness.proofs.Marks.{adds_none, adds-more, room-left}
-use Rattle.soundness.proofs.Heads.{size_fits, entries-are}
 
 -- what is asked of an entry above the leaves
 abbrev pub Child : List ℕ → ℕ → Entry → Type 0
@@ -56,19 +53,19 @@ module _ {w u : List ℕ} {l : ℕ} {e : Entry} {es xs : List Entry} (same : u �
         no = λ _ cs rh rg. x.no refl cs.0.0 (λ q k. omega (arith, rh q k)) (λ c k. omega (arith, rg c k));
       })
 
-  pub below_other : {b : Rect} {h g h₁ g₁ : List Bool} → Visited u l FEWEST e.r h g (Some b) h₁ g₁ → (e.rect ≡ b → ⊥) → Below w l xs h g false h₁ g₁
+  pub below_other : {b : Rect} {h g h₁ g₁ : List Bool} → Visited u l FEWEST e.r h g (Some b) h₁ g₁ → (b ≡ e.rect → ⊥) → Below w l xs h g false h₁ g₁
   below_other {b} {h} {g} {h₁} {g₁} y n =
       let x = there h g (Some b) h₁ g₁ y in here h g false h₁ g₁ (record {
         yes = λ t. absurd (not-both false t refl);
-        no = λ _ cs _ _. n (cs.0.1 ∙ sym x.exact);
+        no = λ _ cs _ _. n (x.exact ∙ sym cs.0.1);
       })
 
-  pub below_go : {b : Rect} {h g h₁ g₁ h' g' : List Bool} {r : Bool} → Visited u l FEWEST e.r h g (Some b) h₁ g₁ → e.rect ≡ b → Below w l es h₁ g₁ r h' g' → Below w l xs h g r h' g'
+  pub below_go : {b : Rect} {h g h₁ g₁ h' g' : List Bool} {r : Bool} → Visited u l FEWEST e.r h g (Some b) h₁ g₁ → b ≡ e.rect → Below w l es h₁ g₁ r h' g' → Below w l xs h g r h' g'
   below_go {b} {h} {g} {h₁} {g₁} {h'} {g'} {r} y s t =
       let x = there h g (Some b) h₁ g₁ y in
       let a = x.yes refl in here h g r h' g' (record {
         yes = λ v. (
-          ((a.0, s ∙ x.exact), (t.yes v).0),
+          ((a.0, sym s ∙ x.exact), (t.yes v).0),
           adds-more PAGES h h₁ h' (visits w l e.r) (λ q. sum (λ k. visits w l k.r q) es) (λ q. sum (λ k. visits w l k.r q) (e ∷ es)) a.1 (t.yes v).1 (λ q. refl),
           adds-more PIECES g g₁ g' (stores w l e.r) (λ c. sum (λ k. stores w l k.r c) es) (λ c. sum (λ k. stores w l k.r c) (e ∷ es)) a.2 (t.yes v).2 (λ c. refl),
         );
@@ -140,35 +137,21 @@ up : (l : ℕ) → (l ≡ 0 → ⊥) → suc (l - 1) ≡ l
 up zero f = absurd (f refl)
 up (suc l) f = rw sub-one
 
--- the same by the words of the page; the marks and the table (u) are those after the page's own tests
-module _ {w u : List ℕ} {l m p k : ℕ} {h h₁ g g₁ : List Bool} {pg : List ℕ} (long : TABLE_WORDS ≤ length w) (count : k ≡ length (table_in w).pages) (most : k ≤ PAGES)
-    (x : Tested PAGES (Head w l m p) (λ q. one (eqb p q)) h true h₁) (same : (u ≡ w) × (g₁ ≡ g)) (words : pg ≡ page_words u p) where
-  is : pg ≡ page_words w p
-  is = words ∙ ap (λ t. page_words t p) same.0
-
-  few : length (table_in w).pages ≤ PAGES
-  few = omega arith
-
-  pub walk_fits : get_or pg 1 0 ≤ FANOUT
-  walk_fits = size_fits w l m p pg long few (x.yes refl).0 is
-
+-- the same by the entries that the page's own tests gave; the marks are those after these tests
+module _ {w : List ℕ} {l m p : ℕ} {h h₁ g g₁ : List Bool} {es : List Entry} (x : Tested PAGES (Head w l m p) (λ q. one (eqb p q)) h true h₁) (same : g₁ ≡ g) (items : es ≡ (page (table_in w) p).entries) where
   from : (v : Option Rect) (h' g' : List Bool) → Visited w l m p h g₁ v h' g' → Visited w l m p h g v h' g'
-  from v h' g' = subst (λ y. Visited w l m p h y v h' g') same.1
+  from v h' g' = subst (λ y. Visited w l m p h y v h' g') same
 
-  module _ {es : List Entry} (items : es ≡ entries_in pg (get_or pg 1 0)) where
-    ent : (page (table_in w) p).entries ≡ es
-    ent = entries-are w l m p pg long few (x.yes refl).0 is ∙ sym items
+  pub walk-leaf : l ≡ 0 → {v : Option Rect} {g' : List Bool} → LeafTested es g₁ v g' → Visited w l m p h g v h₁ g'
+  walk-leaf z {v} {g'} y =
+      from v h₁ g' (subst (λ d. Tested PAGES (Head w d m p) (λ q. one (eqb p q)) h true h₁ → Visited w d m p h g₁ v h₁ g') (sym z) (λ t. leaf-at w m p h h₁ g₁ es (sym items) v g' t y) x)
 
-    pub walk-leaf : l ≡ 0 → {v : Option Rect} {g' : List Bool} → LeafTested es g₁ v g' → Visited w l m p h g v h₁ g'
-    walk-leaf z {v} {g'} y =
-        from v h₁ g' (subst (λ d. Tested PAGES (Head w d m p) (λ q. one (eqb p q)) h true h₁ → Visited w d m p h g₁ v h₁ g') (sym z) (λ t. leaf-at w m p h h₁ g₁ es ent v g' t y) x)
+  module _ (above : l ≡ 0 → ⊥) where
+    entered : Tested PAGES (Head w (suc (l - 1)) m p) (λ q. one (eqb p q)) h true h₁
+    entered = subst (λ d. Tested PAGES (Head w d m p) (λ q. one (eqb p q)) h true h₁) (sym (up l above)) x
 
-    module _ (above : l ≡ 0 → ⊥) where
-      entered : Tested PAGES (Head w (suc (l - 1)) m p) (λ q. one (eqb p q)) h true h₁
-      entered = subst (λ d. Tested PAGES (Head w d m p) (λ q. one (eqb p q)) h true h₁) (sym (up l above)) x
+    pub walk-good : {h' g' : List Bool} {b : Rect} → b ≡ bounds es → Below w (l - 1) es h₁ g₁ true h' g' → Visited w l m p h g (Some b) h' g'
+    walk-good {h'} {g'} {b} z y = from (Some b) h' g' (subst (λ d. Visited w d m p h g₁ (Some b) h' g') (up l above) (good-at w m p h h₁ g₁ es (sym items) (l - 1) h' g' entered b z y))
 
-      pub walk-good : {h' g' : List Bool} {b : Rect} → b ≡ bounds es → Below w (l - 1) es h₁ g₁ true h' g' → Visited w l m p h g (Some b) h' g'
-      walk-good {h'} {g'} {b} z y = from (Some b) h' g' (subst (λ d. Visited w d m p h g₁ (Some b) h' g') (up l above) (good-at w m p h h₁ g₁ es ent (l - 1) h' g' entered b z y))
-
-      pub walk-bad : {h' g' : List Bool} → Below w (l - 1) es h₁ g₁ false h' g' → Visited w l m p h g None h' g'
-      walk-bad {h'} {g'} y = from None h' g' (subst (λ d. Visited w d m p h g₁ None h' g') (up l above) (bad-at w m p h h₁ g₁ es ent (l - 1) h' g' entered y))
+    pub walk-bad : {h' g' : List Bool} → Below w (l - 1) es h₁ g₁ false h' g' → Visited w l m p h g None h' g'
+    walk-bad {h'} {g'} y = from None h' g' (subst (λ d. Visited w d m p h g₁ None h' g') (up l above) (bad-at w m p h h₁ g₁ es (sym items) (l - 1) h' g' entered y))

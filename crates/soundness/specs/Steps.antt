@@ -3,7 +3,7 @@ use Rattle.std.specs.Prelude.{ℕ, zero, suc, ◌+◌, ◌*◌, ◌≤◌, ◌<�
 use Rattle.pages.specs.Under.{under, seen}
 use Rattle.pages.specs.declared.Rect.{Rect}
 use Rattle.pages.specs.declared.Entry.{Entry}
-use Rattle.pages.specs.Sizes.{PIECES, PAGE_HEAD, FANOUT, ENTRY_WORDS, PAGES, TABLE_WORDS, TOP_LEVEL, FEWEST, ROOT_LEAST}
+use Rattle.pages.specs.Sizes.{PIECES, PAGE_HEAD, FANOUT, ENTRY_WORDS, PAGES, TOP_LEVEL, FEWEST, ROOT_LEAST}
 use Rattle.pages.specs.Lists.{one, sum, sum_below, Every}
 use Rattle.pages.specs.Rectangles.{valid, bounds}
 use Rattle.pages.specs.Layout.{page, page_words, table_in}
@@ -33,8 +33,8 @@ abbrev pub stores : List ℕ → ℕ → ℕ → ℕ → ℕ
 stores w l p c = under (is c) (table_in w).pages l p
 
 -- what is asked of an entry in a leaf
-abbrev pub Piece : Entry → Type 0
-Piece e = T (valid e.rect) × (e.r < PIECES)
+abbrev pub IsPiece : Entry → Type 0
+IsPiece e = T (valid e.rect) × (e.r < PIECES)
 
 -- what is asked of a page's own words, at level l with m or more entries
 abbrev pub shaped : List ℕ → ℕ → ℕ → Bool
@@ -52,7 +52,7 @@ pub record Head (w : List ℕ) (l m p : ℕ) : Type 0 where
 
 -- and with all that is under it
 unfoldable pub Tree : List ℕ → ℕ → ℕ → ℕ → Type 0
-Tree w zero m p = Head w zero m p × Every Piece (page (table_in w) p).entries
+Tree w zero m p = Head w zero m p × Every IsPiece (page (table_in w) p).entries
 Tree w (suc l) m p = Head w (suc l) m p × Every (λ e. Tree w l FEWEST e.r × (e.rect ≡ bounds (page (table_in w) e.r).entries)) (page (table_in w) p).entries
 
 -- a test of P that adds f to the marks below n: passed where P holds and there is room
@@ -62,7 +62,7 @@ pub record Tested (n : ℕ) (P : Type 0) (f : ℕ → ℕ) (h : List Bool) (r : 
 
 -- of a leaf's entries: with what bounds it is passed
 pub record LeafTested (es : List Entry) (g : List Bool) (r : Option Rect) (g' : List Bool) : Type 0 where
-  pub tested : Tested PIECES (Every Piece es) (λ c. sum (is c) es) g (is_some r) g'
+  pub tested : Tested PIECES (Every IsPiece es) (λ c. sum (is c) es) g (is_some r) g'
   pub exact : IfSome r (λ b. b ≡ bounds es)
 
 -- of page p with all that is under it
@@ -81,7 +81,6 @@ root_fewest l = cond (eqb l 0) 0 ROOT_LEAST
 
 -- k, the root and its level as the words have them, within their limits
 pub record Rooted (w : List ℕ) (k root level : ℕ) : Type 0 where
-  pub long : TABLE_WORDS ≤ length w
   pub count : k ≡ length (table_in w).pages
   pub most : k ≤ PAGES
   pub is : root ≡ (table_in w).root

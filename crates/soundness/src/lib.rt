@@ -1,15 +1,15 @@
 // The check call: one walk over the pages from the root, which tests all that soundness asks.
 #![tactic(auto)]
 
-ghost use Rattle.std.specs.Prelude.{◌≡◌, ◌+◌, ◌*◌, ◌≤◌, ◌<◌, ◌↔◌, IsTrue, false, true, not, length, get_or, set, eqb};
+ghost use Rattle.std.specs.Prelude.{◌≡◌, ◌≤◌, ◌<◌, ◌↔◌, IsTrue, IfSome, is_some, false, true, not, length, get_or, set, eqb};
 ghost use Rattle.std.specs.List.{count_by};
-ghost use Rattle.pages.specs.Sizes.{PIECES, FANOUT, PAGES, TABLE_WORDS};
+ghost use Rattle.pages.specs.Sizes.{PIECES, PAGES};
 ghost use Rattle.pages.specs.Lists.{one};
-ghost use Rattle.pages.specs.Layout.{table_in};
+ghost use Rattle.pages.specs.Layout.{page, table_in};
 ghost use Rattle.pages.specs.Left.{left};
 ghost use Rattle.pages.specs.Sound.{is, zeros, sound};
 ghost use Rattle.soundness.specs.Calls.{checked_of, check_call};
-ghost use Rattle.soundness.specs.Steps.{Piece, shaped, Head, Tested, LeafTested, Visited, Complete, root_fewest, Rooted};
+ghost use Rattle.soundness.specs.Steps.{IsPiece, shaped, Head, Tested, LeafTested, Visited, Complete, root_fewest, Rooted};
 
 mod table;
 
@@ -23,7 +23,7 @@ pub use table::SoundTable;
 
 /// What C gets of what check returns: a count of 6 is no refusal 6, so they stand apart.
 #[repr(C)]
-#[derive(Drop)]
+#[derive(Clone, Copy, Debug, PartialEq, Eq)]
 pub struct Checked {
     pub refusal: u32,
     pub pieces: u32,
@@ -73,7 +73,7 @@ fn mark(marks: &mut [bool], i: usize) -> bool
 
 // The tests of an entry in a leaf: its number, its rectangle, and that the number was not met before.
 fn take_piece(e: Entry, numbers: &mut [bool; NUMBERS]) -> bool
-    ensures { Tested PIECES (Piece e) (λ c. is c e) numbers.old result numbers.new }
+    ensures { Tested PIECES (IsPiece e) (λ c. is c e) numbers.old result numbers.new }
 {
     e.r < pages::PIECES && e.rect.is_valid() && mark(numbers, e.r as usize)
 }
@@ -104,24 +104,31 @@ fn is_shaped(page: &[u32; PAGE_WORDS], level: u32, least: u32) -> bool
 // A table with k pages, and the marks that a walk over it leaves: the pages visited, the piece numbers met.
 #[derive(Drop)]
 struct Walk<'a> {
-    table: &'a [u32],
+    table: &'a [u32; TABLE_WORDS],
     k: u32,
     seen: [bool; PAGES],
     numbers: [bool; NUMBERS],
-    ghost long: { TABLE_WORDS ≤ length table.now },
     ghost count: { k ≡ length (table_in table.now).pages },
     ghost most: { k ≤ PAGES },
 }
 
-impl Walk<'_> {
-    // The tests of page p itself: its number, that it was not visited before, and its shape.
-    fn enter(&mut self, level: u32, least: u32, p: u32) -> bool
-        ensures tested { Tested PAGES (Head self.old.table.now level least p) (λ q. one (eqb p q)) self.old.seen result self.new.seen }
+impl<'a> Walk<'a> {
+    // The entries of page p, if it passes its own tests: its number, that it was not visited before, and its shape.
+    #[tactic(auto, using(crate::proofs::Heads::entries_are))]
+    fn enter(&mut self, level: u32, least: u32, p: u32) -> Option<PageEntries<'a>>
+        ensures tested { Tested PAGES (Head self.old.table.now level least p) (λ q. one (eqb p q)) self.old.seen (is_some result) self.new.seen }
+        ensures entries { IfSome result (λ entries. left entries ≡ (page (table_in self.old.table.now) p).entries) }
         ensures same { (self.new.table.now ≡ self.old.table.now) × (self.new.numbers ≡ self.old.numbers) }
     {
-        p < self.k
-            && mark(&mut self.seen, p as usize)
-            && is_shaped(pages::page_of(self.table, p as usize), level, least)
+        if p >= self.k || !mark(&mut self.seen, p as usize) {
+            return None;
+        }
+        let table = self.table;
+        let page = pages::page_of(table, p as usize);
+        if !is_shaped(page, level, least) {
+            return None;
+        }
+        Some(pages::entries_of(page, page[COUNT] as usize))
     }
 
     // The walk from page p, at a level, to all that is under it: the bounds of its entries, if all is good.
@@ -129,18 +136,13 @@ impl Walk<'_> {
         ensures visited { Visited self.old.table.now level least p self.old.seen self.old.numbers result self.new.seen self.new.numbers }
         ensures same { self.new.table.now ≡ self.old.table.now }
     {
-        if !self.enter(level, least, p) {
-            return None;
-        }
-        let page = pages::page_of(self.table, p as usize);
-        let entries = pages::entries_of(page, page[COUNT] as usize);
+        let entries = self.enter(level, least, p)?;
         if level == 0 {
             return leaf(entries, &mut self.numbers);
         }
         for e in entries {
-            let child = self.visit(level - 1, FEWEST, e.r)?;
             // "An entry above the leaves holds exactly the bounding rectangle of its child's entries".
-            if e.rect != child {
+            if self.visit(level - 1, FEWEST, e.r)? != e.rect {
                 return None;
             }
         }
@@ -165,7 +167,7 @@ fn root_fewest(level: u32) -> u32
 }
 
 // The walk from the root, then what it leaves, and that the pages from k on are zero.
-fn is_sound_from(table: &[u32], k: u32, root: u32, level: u32) -> bool
+fn is_sound_from(table: &[u32; TABLE_WORDS], k: u32, root: u32, level: u32) -> bool
     requires { Rooted table.now k root level }
     ensures { result ≡ sound table.now }
 {
@@ -177,13 +179,12 @@ fn is_sound_from(table: &[u32], k: u32, root: u32, level: u32) -> bool
     };
     walk.visit(level, root_fewest(level), root).is_some()
         && walk.is_complete()
-        && is_blank(&table[TABLE_HEAD + PAGE_WORDS * (k as usize)..TABLE_WORDS])
+        && is_blank(&table[TABLE_HEAD + PAGE_WORDS * (k as usize)..])
 }
 
-// Whether the first words of the slice are a sound table.
+// Whether the words are a sound table.
 #[tactic(auto, using(crate::proofs::Decides::count_refuses, crate::proofs::Decides::root_refuses, crate::proofs::Decides::level_refuses))]
-fn is_sound(table: &[u32]) -> bool
-    requires { TABLE_WORDS ≤ length table.now }
+fn is_sound(table: &[u32; TABLE_WORDS]) -> bool
     ensures { result ≡ sound table.now }
 {
     let k = table[PAGE_COUNT];
@@ -195,16 +196,15 @@ fn is_sound(table: &[u32]) -> bool
     level <= TOP_LEVEL && is_sound_from(table, k, root, level)
 }
 
-/// Whether the table is sound, and then how many pieces it has.
-#[tactic(auto, using(crate::proofs::Answers::answer_short, crate::proofs::Answers::answer_unsound, crate::proofs::Answers::answer_words))]
+/// Whether the first words of the slice are a sound table, and then how many pieces it has.
 pub fn check(table: &[u32]) -> Result<u32, Refusal>
     ensures { checked_of result ≡ check_call table.now }
 {
-    if table.len() < TABLE_WORDS {
+    let Some(words) = table.first_chunk::<TABLE_WORDS>() else {
         return Err(Refusal::TableTooShort);
-    }
-    if !is_sound(table) {
+    };
+    if !is_sound(words) {
         return Err(Refusal::TableNotSound);
     }
-    Ok(table[PIECE_COUNT])
+    Ok(words[PIECE_COUNT])
 }

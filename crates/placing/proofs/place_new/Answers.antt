@@ -2,14 +2,15 @@
 use Rattle.std.proofs.Common.{rules, ◌≡◌, ◌∙◌}
 use lib.ListN.{take}
 use Rattle.pages.specs.Sizes.{TABLE_WORDS}
-use Rattle.placing.proofs.Firsts.{stored-firsts, sound-firsts, placed-firsts}
+use Rattle.soundness.proofs.Firsts.{stored-firsts, sound-firsts}
+use Rattle.placing.proofs.Firsts.{placed-firsts}
 use Rattle.placing.proofs.place_new.Goals as goal
 
 pub place_words-requires : goal.place_words-requires
 place_words-requires c =
     let p = c.requires in
     let same : c.in-Some.words.now ≡ take TABLE_WORDS c.args.table.now = search rules in
-    (rw same (sound-firsts _ p.1), p.2, rw same (stored-firsts _ _ ∙ p.3))
+    (rw (same, sound-firsts) p.1, p.2, rw same (stored-firsts _ _ ∙ p.3))
 
 pub returns : goal.returns
 returns c =

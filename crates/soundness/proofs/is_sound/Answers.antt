@@ -4,4 +4,4 @@ use Rattle.soundness.proofs.Decides.{rooted}
 use Rattle.soundness.proofs.is_sound.Goals as goal
 
 pub is_sound_from-requires : goal.is_sound_from-requires
-is_sound_from-requires c = rooted _ c.requires _ (omega arith) (omega arith) c.page_of.ensures (omega arith)
+is_sound_from-requires c = rooted _ (omega arith) _ (omega arith) (omega arith) c.page_of.ensures (omega arith)

@@ -4,12 +4,12 @@ use Rattle.pages.specs.Sizes.{PIECES}
 use Rattle.pages.specs.Lists.{sum, Every}
 use Rattle.pages.specs.Left.{left}
 use Rattle.pages.specs.Sound.{is}
-use Rattle.soundness.specs.Steps.{Piece, Tested}
+use Rattle.soundness.specs.Steps.{IsPiece, Tested}
 use Rattle.soundness.proofs.leaf.Given as goal
 
 -- a test of all the entries
 abbrev pub Pieces : List Entry → List Bool → Bool → List Bool → Type 0
-Pieces es g r g' = Tested PIECES (Every Piece es) (λ c. sum (is c) es) g r g'
+Pieces es g r g' = Tested PIECES (Every IsPiece es) (λ c. sum (is c) es) g r g'
 
 -- what the entries left come to decides of them all
 abbrev pub invariant-loop-e : goal.invariant-loop-e

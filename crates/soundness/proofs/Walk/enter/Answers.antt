@@ -1,19 +1,14 @@
 -- The words of a page that has its first mark decide.
-use Rattle.std.proofs.Common.{arith, ◌↔◌, IsTrue}
-use Rattle.std.proofs.lemmas.Grind.{common_steps}
-use Rattle.pages.specs.Layout.{page_words}
-use Rattle.soundness.specs.Steps.{shaped, Head}
-use Rattle.soundness.proofs.Heads.{shaped_head}
+use Rattle.std.proofs.Common.{arith}
+use Rattle.soundness.proofs.Heads.{head_marked}
 use Rattle.soundness.proofs.Walk.enter.Goals as goal
-use Rattle.soundness.proofs.Walk.enter.Goals.{then-p-self, else-p-self}
 
-pub returns-then-mark-clause-tested : goal.returns-then-mark-clause-tested
-returns-then-mark-clause-tested c =
+pub returns-then-not-is_shaped-clause-tested : goal.returns-then-not-is_shaped-clause-tested
+returns-then-not-is_shaped-clause-tested c =
     let a = c.args in
-    let t = a.self.now.table.now in
-    elim c.if-p-self.branch [
-      | then-p-self w ↦ (
-          let s : IsTrue (shaped (page_words t a.p) a.level a.least) ↔ Head t a.level a.least a.p = shaped_head t a.level a.least a.p a.self.now.long (omega arith) (omega arith) in
-          grind (arith, common_steps))
-      | else-p-self w ↦ grind (arith, common_steps)
-    ]
+    head_marked _ a.level a.least a.p (omega arith) (omega arith) (omega arith) c.page_of-page.ensures c.if-not-is_shaped.ensures (omega arith) c.if-not-mark.ensures.fresh c.if-not-mark.ensures.marked
+
+pub returns-clause-tested : goal.returns-clause-tested
+returns-clause-tested c =
+    let a = c.args in
+    head_marked _ a.level a.least a.p (omega arith) (omega arith) (omega arith) c.page_of-page.ensures c.if-not-is_shaped.ensures (omega arith) c.if-not-mark.ensures.fresh c.if-not-mark.ensures.marked
