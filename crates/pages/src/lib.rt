@@ -16,7 +16,7 @@ mod iter;
 mod piece;
 
 pub use iter::PageEntries;
-pub use piece::{Piece, ValidRect};
+pub use piece::{Piece, ValidPiece, ValidRect};
 use refusals::Refusal;
 
 // How many piece numbers there are.
