@@ -155,10 +155,7 @@ pub fn place_new(table: &mut [u32], piece: ValidPiece)
     requires { (TABLE_WORDS ≤ length table.old) × T (sound table.old) × (stored (table_in table.old) piece.number ≡ 0) }
     ensures { table.new ≡ placed_words table.old piece.number piece.rect.rect }
 {
-    match table.first_chunk_mut() {
-        Some(words) => place_words(words, piece),
-        None => unreachable!(),
-    }
+    place_words(table.first_chunk_mut().unwrap(), piece);
 }
 
 fn place_words(table: &mut [u32; TABLE_WORDS], piece: ValidPiece)
