@@ -22,7 +22,7 @@ fn place_marked(table: &mut [u32], marks: &mut [bool; NUMBERS], piece: Piece) ->
     ensures answer { (refusal_of result, table.new) ≡ place_sound table.old piece.number piece.rect }
     ensures marked { Marked table.new marks.new }
 {
-    placing::place_where(table, piece, |_, number| marks[number as usize])?;
+    placing::place_where(table, piece, |_| marks[piece.number as usize])?;
     marks[piece.number as usize] = true;
     Ok(())
 }

@@ -16,7 +16,7 @@ mod iter;
 mod piece;
 
 pub use iter::PageEntries;
-pub use piece::{Piece, ValidRect};
+pub use piece::{Piece, ValidPiece, ValidRect};
 use refusals::Refusal;
 
 // How many piece numbers there are.
@@ -149,10 +149,7 @@ fn change_words<F: FnOnce(&mut [u32; PAGE_WORDS])>(words: &mut [u32], change: F)
     requires takes { FnOnceTakesAtMut F.FnOnce change words.old }
     ensures { FnOnceReturnsAtMut F.FnOnce change words.old tt words.new }
 {
-    match words.as_mut_array() {
-        Some(page) => change(page),
-        None => unreachable!(),
-    }
+    change(words.as_mut_array().unwrap());
 }
 
 // The entry at place i of a page's words.

@@ -1,8 +1,9 @@
-// Pieces, and rectangles that are known to be valid.
-ghost use Rattle.std.specs.Prelude.{T};
+// Pieces, and what is known of them and of their rectangles.
+ghost use Rattle.std.specs.Prelude.{T, ◌<◌};
+ghost use Rattle.pages.specs.Sizes.{PIECES};
 ghost use Rattle.pages.specs.Rectangles.{valid};
 
-use super::Rect;
+use super::{PIECES, Rect};
 use refusals::Refusal;
 
 // A valid rectangle.
@@ -32,6 +33,31 @@ impl TryFrom<Rect> for ValidRect {
 pub struct Piece {
     pub number: u32,
     pub rect: Rect,
+}
+
+// A piece that a place call refuses only where its number stands already.
+#[derive(Clone, Copy, Debug, PartialEq, Eq)]
+pub struct ValidPiece {
+    pub number: u32,
+    pub rect: ValidRect,
+    pub ghost below: { number < PIECES },
+}
+
+impl TryFrom<Piece> for ValidPiece {
+    ghost use Rattle.pages.specs.Pieces.{IsValidPieceOf};
+
+    type Error = Refusal;
+
+    ghost try_from_gives = { IsValidPieceOf };
+
+    fn try_from(piece: Piece) -> Result<ValidPiece, Refusal> {
+        let rect = ValidRect::try_from(piece.rect)?;
+        let number = piece.number;
+        if number >= PIECES {
+            return Err(Refusal::NumberTooLarge);
+        }
+        Ok(ValidPiece { number, rect })
+    }
 }
 
 // The words of a place call: number, x1, y1, x2, y2.

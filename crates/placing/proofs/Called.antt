@@ -9,7 +9,14 @@ use lib.ListN.{length}
 use lib.Dec.{T, leb, eqb}
 use Rattle.std.proofs.lemmas.Bool.{eqb-false}
 use borrow.Author.Tests.{leb-false, le-leb, lt-leb, eqb-true, eq-eqb, ne_eqb}
+use Rattle.std.specs.Prelude.{Err}
+use Rattle.std.specs.Bool.{MatchBool}
+use Rattle.refusals.specs.declared.Refusal.{Refusal}
+use Rattle.refusals.specs.declared.Refusal.TheVariants.{RectangleNotValid, NumberTooLarge}
+use Rattle.refusals.specs.Numbers.{number_of}
 use Rattle.pages.specs.declared.Rect.{Rect}
+use Rattle.pages.specs.declared.piece.Piece.{Piece}
+use Rattle.pages.specs.Pieces.{IsValidPieceOf}
 use Rattle.pages.specs.Sizes.{PIECES, TABLE_WORDS}
 use Rattle.pages.specs.Refusals.{ACCEPTED, RECTANGLE_NOT_VALID, NUMBER_TOO_LARGE, ALREADY_STANDING}
 use Rattle.pages.specs.Rectangles.{valid}
@@ -60,6 +67,13 @@ call-stands w n r e l s = sym (answer w n r ALREADY_STANDING (refusal-open w n r
 
 pub call-done : (w : List ℕ) (n : ℕ) (r : Rect) → valid r ≡ true → n < PIECES → stored (table_in w) n ≡ 0 → (ACCEPTED, placed_words w n r) ≡ place_sound w n r
 call-done w n r e l s = sym (answer w n r ACCEPTED (refusal-open w n r ∙ rw (e, lt-leb PIECES n l, eq-eqb (stored (table_in w) n) 0 s)))
+
+pub call-not-piece : (w : List ℕ) (p : Piece) (why : Refusal) → IsValidPieceOf p (Err why) → (number_of why, w) ≡ place_sound w p.number p.rect
+call-not-piece w p why h = go (valid p.rect) refl h
+  where
+    go : (b : Bool) → valid p.rect ≡ b → MatchBool b ((PIECES ≤ p.number) × (why ≡ NumberTooLarge)) (why ≡ RectangleNotValid) → (number_of why, w) ≡ place_sound w p.number p.rect
+    go true e (l, is) = rw is (call_too_large w p.number p.rect e l)
+    go false e is = rw is (call-not-valid w p.number p.rect e)
 
 -- what an answer says of the words that are left
 module _ (w : List ℕ) (n : ℕ) (r : Rect) (m : ℕ) (v : List ℕ) (h : (m, v) ≡ place_sound w n r) where

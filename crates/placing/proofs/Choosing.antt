@@ -26,10 +26,9 @@ use Rattle.placing.specs.declared.choice.Cost.{Cost}
 use Rattle.pages.specs.declared.Rect.{Rect}
 use Rattle.pages.specs.declared.Entry.{Entry}
 use Rattle.pages.specs.Rectangles.{widen}
-use Rattle.pages.specs.Readers.{entries_in}
 use Rattle.placing.specs.Place.{area, growth, before, scan, choose}
 use Rattle.placing.specs.Parts.{cost_of}
-use Rattle.placing.specs.Steps.{count_in, chosen_in}
+use Rattle.placing.specs.Steps.{filled_in, chosen_in}
 
 -- widening lessens no area
 pub area_widen : (r new : Rect) → area (widen r new) ≡ area r + growth new r
@@ -110,15 +109,15 @@ module _ {S : Type 0} {steps : S → Option (ℕ × Entry) → S → Type 0} {s 
   listed xs d = sym (map-id xs) ∙ items_from_drains xs (d.1.0, d.1.1, λ w. (d.0, d.1.2)) road
 
 pub chosen-least : {S F : Type 0} {steps : S → Option (ℕ × Entry) → S → Type 0} {s : S}
-    (g : Mut F (Bor (ℕ × Entry) × Unit {0}) Cost) {f : F} (new : Rect) (w : List ℕ) (n : ℕ) (es : List Entry) (r : Option (ℕ × Entry))
-    → n ≡ count_in w → es ≡ entries_in w n → PicksMinByKey steps g cost_cmp s f r → YieldsList steps (λ p. (p.0, p.1)) s (enumerate_from 0 es)
+    (g : Mut F (Bor (ℕ × Entry) × Unit {0}) Cost) {f : F} (new : Rect) (w : List ℕ) (es : List Entry) (r : Option (ℕ × Entry))
+    → es ≡ filled_in w → PicksMinByKey steps g cost_cmp s f r → YieldsList steps (λ p. (p.0, p.1)) s (enumerate_from 0 es)
     → ((x : ℕ × Entry) (k : Cost) (q : F) → CalledAt g f x k q → (q ≡ f) × (k ≡ cost_of new x.1.rect))
     → (o : Option (ℕ × Entry)) → r ≡ o → MatchOption o (0 ≡ chosen_in w new) (λ p. p.0 ≡ chosen_in w new)
 unfolding chosen_in
-chosen-least {F = F} {steps} {s} g {f} new w n es r a b ran road called o e = go o (subst (PicksMinByKey steps g cost_cmp s f) e ran)
+chosen-least {F = F} {steps} {s} g {f} new w es r b ran road called o e = go o (subst (PicksMinByKey steps g cost_cmp s f) e ran)
   where
-    here : choose new es ≡ choose new (entries_in w (count_in w))
-    here = ap (choose new) (b ∙ ap (entries_in w) a)
+    here : choose new es ≡ choose new (filled_in w)
+    here = ap (choose new) b
 
     none : (es : List Entry) → [] ≡ enumerate_from 0 es → 0 ≡ choose new es
     none [] e = sym (choose-none new)
@@ -132,6 +131,6 @@ chosen-least {F = F} {steps} {s} g {f} new w n es r a b ran road called o e = go
         turns g f new called 1 es ((p, k), x) (q, y) c.0 c.1 (subst (λ v. FoldsTo (Turn g f new called) ((p, k), x) v (q, y)) (ap (drop 1) e) t)
         ∙ ap (λ v. scan new v.1.rect v.0 1 es) (ap (λ l. get_or l 0 x) e) ∙ sym (choose-first new z es)
 
-    go : (r : Option (ℕ × Entry)) → PicksMinByKey steps g cost_cmp s f r → MatchOption r (0 ≡ choose new (entries_in w (count_in w))) (λ p. p.0 ≡ choose new (entries_in w (count_in w)))
+    go : (r : Option (ℕ × Entry)) → PicksMinByKey steps g cost_cmp s f r → MatchOption r (0 ≡ choose new (filled_in w)) (λ p. p.0 ≡ choose new (filled_in w))
     go None h = none es (listed es road [] h) ∙ here
     go (Some y) h = some es h.0 h.1 h.2 h.3 h.4 y (listed es road (h.0 ∷ h.1) h.5) h.6 h.7 ∙ here

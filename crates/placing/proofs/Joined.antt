@@ -186,3 +186,11 @@ held-in w c wl h =
     ∙ (below-same (length t.pages) (λ p. held_in (page_words w p) c) (λ p. sum (is c) (piece_entries (page t p)))
     (λ p l. ap (λ v. held_in v c) (page-in w p wl h (omega (arith, F.most))) ∙ held-page (page t p) c (F.eight p l))
     ∙ sym (sum-places (λ g. sum (is c) (piece_entries g)) t.pages no_page)))
+
+-- the search of words that are those of a sound table
+module _ (w t : List ℕ) (wl : TABLE_WORDS ≤ length w) (h : T (sound w)) (is : t ≡ w) where
+  pub may_search : (TABLE_WORDS ≤ length t) × (get_or t 0 0 ≤ PAGES)
+  may_search = rw is (wl, (head_in w wl h).0)
+
+  pub search_knows : (n : ℕ) (b : Bool) → b ≡ ltb 0 (held_below t n (get_or t 0 0)) → b ≡ ltb 0 (stored (table_in w) n)
+  search_knows n b e = e ∙ (ap (λ v. ltb 0 (held_below v n (get_or v 0 0))) is ∙ ap (ltb 0) (held-in w n wl h))

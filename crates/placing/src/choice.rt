@@ -4,10 +4,10 @@ ghost use Rattle.placing.specs.Place.{area};
 ghost use Rattle.placing.specs.Parts.{cost_of};
 ghost use Rattle.placing.specs.Steps.{chosen_in};
 
-use super::words::{Slot, entry_count};
+use super::words::{Slot, filled};
 use pages::{PAGE_WORDS, Rect};
 
-// The width and the height.
+// To the east, and to the north.
 pub fn sides(r: Rect) -> (u32, u32)
     ensures { result ≡ (r.x2 - r.x1, r.y2 - r.y1) }
 {
@@ -45,7 +45,7 @@ fn cost_of(r: Rect, new: Rect) -> Cost
 pub fn choose(page: &[u32; PAGE_WORDS], new: Rect) -> Slot
     ensures { result.index ≡ chosen_in page.now new }
 {
-    let entries = pages::entries_of(page, entry_count(page)).enumerate();
+    let entries = filled(page).enumerate();
     match entries.min_by_key(|(_, e)| cost_of(e.rect, new)) {
         Some((index, _)) => Slot { index },
         None => Slot { index: 0 },

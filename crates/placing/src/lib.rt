@@ -9,8 +9,9 @@ mod words;
 
 ghost use Rattle.std.specs.Prelude.{◌≡◌, ◌≤◌, ◌<◌, length, get_or, T, leb};
 ghost use Rattle.refusals.specs.Numbers.{refusal_of};
-ghost use Rattle.pages.specs.Sizes.{PIECES, FANOUT, TABLE_WORDS};
-ghost use Rattle.pages.specs.Layout.{page_words, table_in};
+ghost use Rattle.pages.specs.Sizes.{FANOUT, TABLE_WORDS};
+ghost use Rattle.pages.specs.Layout.{page_of, encode_page, page_words, table_in};
+ghost use Rattle.pages.specs.Writes.{put_page};
 ghost use Rattle.pages.specs.Sound.{stored, sound};
 ghost use Rattle.placing.specs.Calls.{placed_words, place_sound, place_call};
 ghost use Rattle.placing.specs.Standing.{KnowsStanding};
@@ -20,15 +21,23 @@ use choice::choose;
 use number::PageNumber;
 use order::Nine;
 use pages::{
-    COUNT, Entry, FANOUT, LEVEL, PAGE_COUNT, PIECE_COUNT, PIECES, Piece, ROOT, Rect, TABLE_WORDS,
-    ValidRect,
+    COUNT, Entry, FANOUT, LEVEL, PAGE_COUNT, PIECE_COUNT, Piece, ROOT, Rect, TABLE_WORDS,
+    ValidPiece,
 };
 use refusals::Refusal;
 use search::stands;
-use words::{Slot, append_entry, entry_count, write_entry, write_page};
+use words::{Slot, append_entry, filled, write_entry, write_page};
 
 // How many of nine entries stay in a page that is split.
 const STAY: usize = 4;
+
+// Writes the whole of page p.
+fn set_page(table: &mut [u32; TABLE_WORDS], p: PageNumber, level: u32, es: &[Entry])
+    requires { length es.now ≤ FANOUT }
+    ensures { table.new ≡ put_page table.old p.number (encode_page (page_of level es.now)) }
+{
+    pages::change_page(table, p.index(), |page| write_page(page, level, es));
+}
 
 // Four of the nine stay in page p, and five go to page k.
 fn split_page(table: &mut [u32; TABLE_WORDS], p: PageNumber, k: PageNumber, e: Entry)
@@ -37,16 +46,8 @@ fn split_page(table: &mut [u32; TABLE_WORDS], p: PageNumber, k: PageNumber, e: E
     let page = pages::page_of(table, p.index());
     let level = page[LEVEL];
     let es = Nine { page, last: e }.ordered();
-    pages::change_page(
-        table,
-        p.index(),
-        |page| write_page(page, level, &es[..STAY]),
-    );
-    pages::change_page(
-        table,
-        k.index(),
-        |page| write_page(page, level, &es[STAY..]),
-    );
+    set_page(table, p, level, &es[..STAY]);
+    set_page(table, k, level, &es[STAY..]);
 }
 
 fn is_full(table: &[u32; TABLE_WORDS], p: PageNumber) -> bool
@@ -78,11 +79,9 @@ fn bounds_at(table: &[u32; TABLE_WORDS], q: u32) -> Rect
     let Some(q) = PageNumber::new(q) else {
         return Rect::default();
     };
-    let page = pages::page_of(table, q.index());
-    pages::bounds_of(page, entry_count(page))
+    filled(pages::page_of(table, q.index())).bounds()
 }
 
-// The entry for page q: its bounds.
 fn entry_for(table: &[u32; TABLE_WORDS], q: u32) -> Entry
     ensures { result ≡ entry_for_in table.now q }
 {
@@ -146,33 +145,29 @@ fn make_root(table: &mut [u32; TABLE_WORDS], root: u32, q: u32, level: u32)
         return;
     };
     let es = [entry_for(table, root), entry_for(table, q)];
-    pages::change_page(table, k.index(), |page| write_page(page, level, &es));
+    set_page(table, k, level, &es);
     table[PAGE_COUNT] = k.number + 1;
     table[ROOT] = k.number;
 }
 
 // A place call that nothing refuses.
-pub fn place_new(table: &mut [u32], number: u32, rect: ValidRect)
-    requires { (TABLE_WORDS ≤ length table.old) × T (sound table.old) × (number < PIECES) × (stored (table_in table.old) number ≡ 0) }
-    ensures { table.new ≡ placed_words table.old number rect.rect }
+pub fn place_new(table: &mut [u32], piece: ValidPiece)
+    requires { (TABLE_WORDS ≤ length table.old) × T (sound table.old) × (stored (table_in table.old) piece.number ≡ 0) }
+    ensures { table.new ≡ placed_words table.old piece.number piece.rect.rect }
 {
-    match table.first_chunk_mut() {
-        Some(words) => place_words(words, number, rect),
-        None => unreachable!(),
-    }
+    place_words(table.first_chunk_mut().unwrap(), piece);
 }
 
-// The same over the words of the table.
-fn place_words(table: &mut [u32; TABLE_WORDS], number: u32, rect: ValidRect)
-    requires { T (sound table.old) × (number < PIECES) × (stored (table_in table.old) number ≡ 0) }
-    ensures { table.new ≡ placed_words table.old number rect.rect }
+fn place_words(table: &mut [u32; TABLE_WORDS], piece: ValidPiece)
+    requires { T (sound table.old) × (stored (table_in table.old) piece.number ≡ 0) }
+    ensures { table.new ≡ placed_words table.old piece.number piece.rect.rect }
 {
     let root = table[ROOT];
     let count = table[PIECE_COUNT];
     let level = pages::page_of(table, root as usize)[LEVEL];
     let e = Entry {
-        rect: rect.rect,
-        r: number,
+        rect: piece.rect.rect,
+        r: piece.number,
     };
     if let Some(part) = place_at(table, level, root, e) {
         make_root(table, root, part, level + 1);
@@ -180,33 +175,31 @@ fn place_words(table: &mut [u32; TABLE_WORDS], number: u32, rect: ValidRect)
     table[PIECE_COUNT] = count + 1;
 }
 
-// A place call on a sound table, of which `stands` knows whether it holds the number.
-pub fn place_where<F: FnOnce(&[u32], u32) -> bool>(
+// A place call on a sound table, of which `is_standing` knows whether it holds the number.
+pub fn place_where<F: FnOnce(&[u32]) -> bool>(
     table: &mut [u32],
     piece: Piece,
-    stands: F,
+    is_standing: F,
 ) -> Result<(), Refusal>
     requires sound { (TABLE_WORDS ≤ length table.old) × T (sound table.old) }
-    requires knows { KnowsStanding F.FnOnce stands table.old piece.number }
+    requires knows { KnowsStanding F.FnOnce is_standing table.old piece.number }
     ensures { (refusal_of result, table.new) ≡ place_sound table.old piece.number piece.rect }
 {
-    let rect = ValidRect::try_from(piece.rect)?;
-    if piece.number >= PIECES {
-        return Err(Refusal::NumberTooLarge);
-    }
-    if stands(table, piece.number) {
+    let piece = ValidPiece::try_from(piece)?;
+    if is_standing(table) {
         return Err(Refusal::AlreadyStanding);
     }
-    place_new(table, piece.number, rect);
+    place_new(table, piece);
     Ok(())
 }
 
 // A place call on a sound table.
+#[tactic(auto, using(crate::proofs::Joined::may_search, crate::proofs::Joined::search_knows))]
 pub fn place_sound(table: &mut [u32], piece: Piece) -> Result<(), Refusal>
     requires { (TABLE_WORDS ≤ length table.old) × T (sound table.old) }
     ensures { (refusal_of result, table.new) ≡ place_sound table.old piece.number piece.rect }
 {
-    place_where(table, piece, stands)
+    place_where(table, piece, |table| stands(table, piece.number))
 }
 
 // A place call on any words.

@@ -6,27 +6,25 @@ ghost use Rattle.pages.specs.Sound.{is};
 ghost use Rattle.pages.specs.Left.{left};
 ghost use Rattle.placing.specs.Steps.{held_in, held_below};
 
-use super::words::entry_count;
+use super::words::filled;
 use pages::{FANOUT, LEVEL, PAGE_COUNT, PAGE_WORDS, PageEntries};
 
-// Whether one of the entries has the r `number`.
 fn has_ref(mut entries: PageEntries<'_>, number: u32) -> bool
     ensures { result ≡ ltb 0 (sum (is number) (left entries.entry)) }
 {
     entries.any(|e| e.r == number)
 }
 
-// Whether an entry of a leaf has the r `number`. The count is read only after a match at one of the eight places.
+// The count is read only after a match at one of the eight places.
 #[tactic(auto, using(crate::proofs::Searching::held_leaf))]
 fn is_held(page: &[u32; PAGE_WORDS], number: u32) -> bool
     ensures { result ≡ ltb 0 (held_in page.now number) }
 {
     page[LEVEL] == 0
         && has_ref(pages::entries_of(page, FANOUT), number)
-        && has_ref(pages::entries_of(page, entry_count(page)), number)
+        && has_ref(filled(page), number)
 }
 
-// Whether an entry in the leaves has the r `number`.
 pub fn stands(table: &[u32], number: u32) -> bool
     requires { (TABLE_WORDS ≤ length table.now) × (get_or table.now 0 0 ≤ PAGES) }
     ensures { result ≡ ltb 0 (held_below table.now number (get_or table.now 0 0)) }

@@ -2,9 +2,12 @@
 ghost use Rattle.std.specs.Prelude.{◌≡◌, ◌≤◌, ◌<◌, length, get_or};
 ghost use Rattle.pages.specs.Sizes.{FANOUT};
 ghost use Rattle.pages.specs.Layout.{page_of, encode_page};
-ghost use Rattle.placing.specs.Steps.{count_in, entry_set, entry_widened, appended};
+ghost use Rattle.pages.specs.Left.{left};
+ghost use Rattle.placing.specs.Steps.{count_in, filled_in, entry_set, entry_widened, appended};
 
-use pages::{COUNT, ENTRY_R, ENTRY_WORDS, Entry, FANOUT, LEVEL, PAGE_HEAD, PAGE_WORDS, Rect};
+use pages::{
+    COUNT, ENTRY_R, ENTRY_WORDS, Entry, FANOUT, LEVEL, PAGE_HEAD, PAGE_WORDS, PageEntries, Rect,
+};
 
 // A place of a page, where an entry stands.
 #[derive(Clone, Copy)]
@@ -14,10 +17,17 @@ pub struct Slot {
 }
 
 // The entry count of a page's words, at most 8.
-pub fn entry_count(page: &[u32; PAGE_WORDS]) -> usize
+fn entry_count(page: &[u32; PAGE_WORDS]) -> usize
     ensures { result ≡ count_in page.now }
 {
     (page[COUNT] as usize).min(FANOUT)
+}
+
+pub fn filled(page: &[u32; PAGE_WORDS]) -> PageEntries<'_>
+    ensures items { left result ≡ filled_in page.now }
+    ensures few { length (left result) ≤ FANOUT }
+{
+    pages::entries_of(page, entry_count(page))
 }
 
 #[tactic(auto, unfolding(crate::specs::Steps::entry_set))]
@@ -32,7 +42,6 @@ pub fn write_entry(page: &mut [u32; PAGE_WORDS], slot: Slot, e: Entry)
     page[at + ENTRY_R] = e.r;
 }
 
-// Widens the entry in the slot by the new rectangle.
 pub fn widen_entry(page: &mut [u32; PAGE_WORDS], slot: Slot, new: Rect)
     ensures { page.new ≡ entry_widened page.old slot.index new }
 {
@@ -52,7 +61,7 @@ pub fn append_entry(page: &mut [u32; PAGE_WORDS], e: Entry)
     page[COUNT] = n + 1;
 }
 
-// Writes the whole page: its level, the entries and their number, and zeros.
+// Behind the entries come zeros.
 pub fn write_page(page: &mut [u32; PAGE_WORDS], level: u32, es: &[Entry])
     requires { length es.now ≤ FANOUT }
     ensures { page.new ≡ encode_page (page_of level es.now) }

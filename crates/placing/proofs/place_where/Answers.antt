@@ -2,30 +2,25 @@
 use mathlib.Core.Path.{refl}
 use Rattle.std.proofs.lemmas.Result.{err_from_is_err_and}
 use Rattle.placing.proofs.Searching.{some-held, none-held}
-use Rattle.placing.proofs.Called.{call-not-valid, call_too_large, call-stands, call-done}
+use Rattle.placing.proofs.Called.{call-not-piece, call-stands, call-done}
 use Rattle.placing.proofs.place_where.Goals as goal
 
-pub returns-in_err-rect : goal.returns-in_err-rect
-returns-in_err-rect g c =
+pub returns-in_err-piece : goal.returns-in_err-piece
+returns-in_err-piece g c =
     let p = err_from_is_err_and c.from_residual.result c.from_residual.ensures.1 in
-    let e = c.in_err-rect.ensures in
-    rw (p.1, p.2, e.1) (call-not-valid _ _ _ e.0)
+    rw (p.1, p.2) (call-not-piece _ _ _ c.in_err-piece.ensures)
 
-pub returns-then-piece-ge-PIECES : goal.returns-then-piece-ge-PIECES
-returns-then-piece-ge-PIECES g c = call_too_large _ _ _ c.in_ok-rect.ensures.0 c.if-piece-ge-PIECES.true
-
-pub returns-then-stands : goal.returns-then-stands
-returns-then-stands g c =
-    let l = c.if-piece-ge-PIECES.false in
-    call-stands _ _ _ c.in_ok-rect.ensures.0 l (some-held _ _ ((c.requires.knows l _ refl).1 _ c.stands.ensures) c.if-stands.true)
+pub returns-then-is_standing : goal.returns-then-is_standing
+returns-then-is_standing g c =
+    let v = c.in_ok-piece.ensures in
+    call-stands _ _ _ v.0 v.1 (some-held _ _ ((c.requires.knows v.1 _ refl).1 _ c.is_standing.ensures) c.if-is_standing.true)
 
 pub place_new-requires : goal.place_new-requires
 place_new-requires g c =
-    let l = c.if-piece-ge-PIECES.false in
-    (c.requires.sound.0, c.requires.sound.1, l, none-held _ _ ((c.requires.knows l _ refl).1 _ c.stands.ensures) c.if-stands.false)
+    let v = c.in_ok-piece.ensures in
+    rw v.2 (c.requires.sound.0, c.requires.sound.1, none-held _ _ ((c.requires.knows v.1 _ refl).1 _ c.is_standing.ensures) c.if-is_standing.false)
 
 pub returns : goal.returns
 returns g c =
-    let l = c.if-piece-ge-PIECES.false in
-    let v = c.in_ok-rect.ensures in
-    rw (c.place_new.ensures, v.1) (call-done _ _ _ v.0 l (none-held _ _ ((c.requires.knows l _ refl).1 _ c.stands.ensures) c.if-stands.false))
+    let v = c.in_ok-piece.ensures in
+    rw (c.place_new.ensures, v.2, v.3) (call-done _ _ _ v.0 v.1 (none-held _ _ ((c.requires.knows v.1 _ refl).1 _ c.is_standing.ensures) c.if-is_standing.false))

@@ -22,4 +22,4 @@ returns c =
     let p = c.requires in
     placed-is _ _ c.match-place_at.table _ _ _ c.place_at.result (ap (λ w. get_or w 0 0) c.page_of.ensures) c.place_at.ensures
     (elim c.match-place_at.branch [ in-Some w ↦ rw w.in-Some.is (w.table-is ∙ w.make_root.ensures) | in_default w ↦ rw w.in_default.is w.table-is ])
-    ∙ placed-in c.args.table.now _ _ (omega arith) p.0 c.args.rect.holds p.1 p.2
+    ∙ placed-in c.args.table.now _ _ (omega arith) p.0 c.args.piece.rect.holds c.args.piece.below p.1
