@@ -59,7 +59,7 @@ AROUND = 5
 unfoldable pub open_at : List ℕ → ℕ → Bool
 open_at joined c = page_test joined c AROUND || page_test joined AROUND c
 
--- nothing beyond the reference can be admitted: what lies there has code 1, 2 or 13 on some axis
+-- nothing is admitted with code 1, 2 or 13 on an axis, so both codes are in 3 to 12
 unfoldable pub near_by : List ℕ → Bool
 near_by joined = not (open_at joined 1) && (not (open_at joined 2) && not (open_at joined CODES))
 
