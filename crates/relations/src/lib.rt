@@ -347,9 +347,8 @@ impl PageTest {
         if !self.is_inner() {
             return false;
         }
-        let shared = set.rows[3..=10]
+        set.rows[2..=10]
             .iter()
-            .fold(set.rows[2], |shared, row| shared & row);
-        shared & OVERLAPPING == OVERLAPPING
+            .all(|row| row & OVERLAPPING == OVERLAPPING)
     }
 }
