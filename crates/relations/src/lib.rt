@@ -1,7 +1,7 @@
 // Axis codes, relations, admitted sets, and the thirteen sets of what can stand inside a page.
 #![tactic(auto)]
 
-ghost use Rattle.std.specs.Prelude.{◌≡◌, ℕ, suc, ◌<◌, ◌^◌};
+ghost use Rattle.std.specs.Prelude.{◌≡◌, ℕ, suc, ◌-◌, ◌<◌, ◌^◌};
 ghost use Rattle.refusals.specs.Numbers.{refusal_of};
 ghost use Rattle.relations.specs.Sets.{listed, ones_from};
 ghost use Rattle.relations.specs.Axis.{CODES, code, IsCode};
@@ -27,6 +27,15 @@ pub const CLAUSES: usize = 8;
 pub struct Code {
     pub number: usize,
     pub ghost one_of_thirteen: { IsCode number },
+}
+
+impl Code {
+    // Its place in thirteen rows or bits.
+    fn index(self) -> usize
+        ensures { result ≡ self.number - 1 }
+    {
+        self.number - 1
+    }
 }
 
 /// Row set i of a query, at place i - 1: its bit j - 1 says whether configuration (i, j) is admitted.
@@ -206,7 +215,7 @@ impl RowSets {
     pub fn has(&self, i: Code, j: Code) -> bool
         ensures { result ≡ rows_have self.now.rows i.number j.number }
     {
-        (self.rows[i.number - 1] >> (j.number - 1)) % 2 == 1
+        (self.rows[i.index()] >> j.index()) % 2 == 1
     }
 
     /// How many configurations are admitted.
@@ -294,7 +303,7 @@ impl PageTest {
     pub fn may_hold(&self, cy: Code, cx: Code) -> bool
         ensures { result ≡ page_test self.now.below cy.number cx.number }
     {
-        self.below[cy.number - 1] & self.masks[cx.number - 1] != 0
+        self.below[cy.index()] & self.masks[cx.index()] != 0
     }
 
     // Whether something admitted can stand below a page of code c on one axis, whatever its code on the other.
