@@ -20,7 +20,7 @@ use Rattle.pages.specs.Rectangles.{rect_of, valid}
 use Rattle.query.specs.Admission.{code_y, code_x}
 use Rattle.query.specs.Steps.{Small, admits_by, opens_by}
 use Rattle.query.specs.Window.{window_for, beyond, decided, Decides}
-use Rattle.query.proofs.Tests.{Proper, proper, small}
+use Rattle.query.proofs.Tests.{Proper, proper}
 
 either : (a b : Bool) → (a || b) ≡ true → (a ≡ true) ⊎ (b ≡ true)
 either true b e = inl refl
@@ -65,18 +65,6 @@ drawn q = rect_of (q.x1 + 1) (q.y1 + 1) (q.x2 - 1) (q.y2 - 1)
 drawn-out : {p1 p2 q1 q2 : ℕ} → (q2 - 1 < p1) ⊎ (p2 < q1 + 1) → (q2 ≤ p1) ⊎ (p2 ≤ q1)
 drawn-out (inl h) = inl (omega arith)
 drawn-out (inr h) = inr (omega arith)
-
-window-small : (q : Rect) → T (valid q) → (reach : Reach) → Small (window_for q reach)
-unfolding window_for
-window-small q v Inner =
-    let s = small q v in
-    let o = proper q v in
-    record { x-start = omega (arith, s.x-end, o.on-x); y-start = omega (arith, s.y-end, o.on-y); x-end = omega (arith, s.x-end); y-end = omega (arith, s.y-end) }
-window-small q v Near = small q v
-window-small q v Anywhere = record { x-start = omega arith; y-start = omega arith; x-end = omega arith; y-end = omega arith }
-
-pub made-small : (q w : Rect) → T (valid q) → (reach : Reach) → w ≡ window_for q reach → Small w
-made-small q w v reach e = rw e (window-small q v reach)
 
 module _ (rows : List ℕ) (q : Rect) (v : T (valid q)) where
   o : Proper q

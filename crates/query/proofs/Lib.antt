@@ -3,6 +3,7 @@ pub mod Reading
 pub mod Concat
 pub mod Marks
 pub mod Walking
+mod Leaf
 pub mod Members
 pub mod Pieces
 pub mod Listed

@@ -17,21 +17,9 @@ use Rattle.pages.specs.Layout.{Page, Table, page_at, page}
 use Rattle.pages.proofs.Entries.{leaf-pieces}
 use Rattle.query.specs.Opening.{opened_under}
 use Rattle.query.specs.Steps.{admitted_r, hits_on}
-use Rattle.query.specs.Marks.{with_mark, marked}
+use Rattle.query.specs.Marks.{marked}
 use Rattle.query.specs.Visits.{VisitsAll}
 use Rattle.query.proofs.Concat.{marked_append}
-
--- one entry of a leaf, and those left after it
-pub marking-step : (admit : Rect → Bool) (es rest : List Entry) (e : Entry) (m m' : List ℕ) (hit : Bool) → es ≡ e ∷ rest → hit ≡ admit e.rect → m' ≡ cond hit (with_mark m e.r) m
-    → marked m' (concat_map (admitted_r admit) rest) ≡ marked m (concat_map (admitted_r admit) es)
-unfolding marked
-marking-step admit es rest e m m' hit s y q =
-    ap (λ x. marked x (concat_map (admitted_r admit) rest)) q
-    ∙ (go hit ∙ ap (λ x. marked m (cond x (e.r ∷ []) [] ++ concat_map (admitted_r admit) rest)) y ∙ ap (λ x. marked m (concat_map (admitted_r admit) x)) (sym s))
-  where
-    go : (b : Bool) → marked (cond b (with_mark m e.r) m) (concat_map (admitted_r admit) rest) ≡ marked m (cond b (e.r ∷ []) [] ++ concat_map (admitted_r admit) rest)
-    go true = refl
-    go false = refl
 
 -- the admitted pieces on a leaf and above
 module _ (admit : Rect → Bool) (t : Table) (p : ℕ) where

@@ -39,8 +39,8 @@ pub record Roomy (starts ends : ℕ) : Type 0 where
   pub x-most : ends % HALF ≤ MOST + EDGE
   pub y-most : ends / HALF ≤ MOST + EDGE
 
--- drawn in by one unit where nothing is admitted that does not overlap the reference, the reference itself where nothing
--- beyond it is, else all that pieces can cover
+-- the reference drawn in by one unit where both codes are in 3 to 11, itself where they are in 3 to 12, else all that pieces
+-- can cover
 unfoldable pub window_for : Rect → Reach → Rect
 window_for q Inner = rect_of (q.x1 + 1) (q.y1 + 1) (q.x2 - 1) (q.y2 - 1)
 window_for q Near = q

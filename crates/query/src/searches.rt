@@ -5,7 +5,7 @@ ghost use Rattle.query.specs.Admission.{code_y, code_x};
 ghost use Rattle.query.specs.Steps.{Small, admits_by, opens_by};
 ghost use Rattle.query.specs.Window.{Decides};
 
-use crate::window::{Window, window_for};
+use crate::window::Window;
 use pages::{Rect, ValidRect};
 use relations::{Code, PageTest, RowSets};
 use soundness::SoundTable;
@@ -33,14 +33,14 @@ impl Search<'_> {
         ensures set { result.set ≡ set }
     {
         let test = PageTest::new(&set);
-        let window = window_for(reference, test.reach());
+        let window = Window::new(reference, test.reach());
         let whole = test.is_overlap(&set);
         Search {
             table,
             reference,
             set,
             test,
-            window: Window::new(window),
+            window,
             whole,
         }
     }

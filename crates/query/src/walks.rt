@@ -49,10 +49,7 @@ impl Search<'_> {
             return;
         }
         for e in self.table.entries(p) {
-            if self.window.is_beyond(e.rect) {
-                continue;
-            }
-            if self.admits(e.rect) {
+            if !self.window.is_beyond(e.rect) && self.admits(e.rect) {
                 marks.mark(e.r);
             }
         }

@@ -30,49 +30,12 @@ fn is_over(word: u64) -> bool
     (word >= TOP * HALF) | (word % HALF >= TOP)
 }
 
-/// Paired words: what a rectangle's start may grow by, and what its end is taken from, before the highest bit of a half is set.
-#[derive(Drop)]
-pub struct Window {
-    starts: u64,
-    ends: u64,
-}
-
-impl Model for Window {
-    ghost Value = { Rect };
-
-    ghost view = { λ w. window_in w.starts w.ends };
-
-    ghost invariant = { λ w. Roomy w.starts w.ends };
-}
-
-impl Window {
-    pub fn new(w: Rect) -> Window
-        requires { Small w }
-        ensures { result ≡ w }
-    {
-        Window {
-            starts: paired(MOST - w.x2, MOST - w.y2),
-            ends: paired(MOST + w.x1, MOST + w.y1),
-        }
-    }
-
-    /// Whether a rectangle lies beyond the window on one of its sides. A sum and a difference of paired words test both axes at
-    /// once: four comparisons become four branches, which the processor can hardly foretell.
-    pub fn is_beyond(&self, rect: Rect) -> bool
-        requires { Small rect }
-        ensures { result ≡ beyond self.now rect }
-    {
-        let starts = paired(rect.x1, rect.y1) + self.starts;
-        let ends = self.ends - paired(rect.x2, rect.y2);
-        is_over(starts) | is_over(ends)
-    }
-}
-
-/// What is searched: the reference drawn in by one unit where nothing is admitted that does not overlap it, the reference itself
-/// where nothing beyond it is, else all that pieces can cover.
-#[tactic(auto, using(crate::proofs::Tests::proper), unfolding(crate::specs::Window::window_for))]
-pub fn window_for(reference: ValidRect, reach: Reach) -> Rect
-    ensures { result ≡ window_for reference.rect reach }
+// What is searched: the reference drawn in by one unit where both codes are in 3 to 11, the reference itself where they are in 3
+// to 12, else all that pieces can cover.
+#[tactic(auto, using(crate::proofs::Tests::proper, crate::proofs::Tests::small), unfolding(crate::specs::Window::window_for))]
+fn window_for(reference: ValidRect, reach: Reach) -> Rect
+    ensures window { result ≡ window_for reference.rect reach }
+    ensures small { Small result }
 {
     let q = reference.rect;
     match reach {
@@ -89,5 +52,44 @@ pub fn window_for(reference: ValidRect, reach: Reach) -> Rect
             x2: pages::EDGE,
             y2: pages::EDGE,
         },
+    }
+}
+
+/// Paired words: what a rectangle's start may grow by, and what its end is taken from, before the highest bit of a half is set.
+#[derive(Drop)]
+pub struct Window {
+    starts: u64,
+    ends: u64,
+}
+
+impl Model for Window {
+    ghost Value = { Rect };
+
+    ghost view = { λ w. window_in w.starts w.ends };
+
+    ghost invariant = { λ w. Roomy w.starts w.ends };
+}
+
+impl Window {
+    /// The window of a reference, by how far from it rectangles can be admitted.
+    pub fn new(reference: ValidRect, reach: Reach) -> Window
+        ensures { result ≡ window_for reference.rect reach }
+    {
+        let w = window_for(reference, reach);
+        Window {
+            starts: paired(MOST - w.x2, MOST - w.y2),
+            ends: paired(MOST + w.x1, MOST + w.y1),
+        }
+    }
+
+    /// Whether a rectangle lies beyond the window on one of its sides. A sum and a difference of paired words test both axes at
+    /// once: four comparisons become four branches, which the processor can hardly foretell.
+    pub fn is_beyond(&self, rect: Rect) -> bool
+        requires { Small rect }
+        ensures { result ≡ beyond self.now rect }
+    {
+        let starts = paired(rect.x1, rect.y1) + self.starts;
+        let ends = self.ends - paired(rect.x2, rect.y2);
+        is_over(starts) | is_over(ends)
     }
 }

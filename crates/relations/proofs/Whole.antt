@@ -1,25 +1,22 @@
 -- Where all 81 configurations with both codes in 3 to 11 are admitted, whatever has such codes passes both tests.
-use mathlib.Core.Bool.{Bool, true, false, ◌&&◌, cond, false≢true}
+use mathlib.Core.Bool.{Bool, true, false, cond, false≢true}
 use mathlib.Core.List.{List}
-use mathlib.Core.Path.{◌≡◌, refl, sym, ap, ap₂, subst, ◌∙◌}
-use lib.Seq.{take-suc}
-use Rattle.std.proofs.lemmas.List.{get_or-drop, length-drop}
-use Rattle.std.proofs.lemmas.List.Sums.{fold-append}
-use Prim.Native.Nat.{ℕ, zero, suc, ◌+◌, ◌-◌, ◌≤◌, ◌<◌}
-use native.Mathlib.Decide.{ℕ_discrete}
+use mathlib.Core.Path.{◌≡◌, refl, sym, ap, subst, ◌∙◌}
+use Rattle.std.proofs.Common.{rules, tests}
+use Rattle.std.proofs.lemmas.List.{get_or-drop, get_or-take}
+use Rattle.std.proofs.lemmas.List.Folds.{list_all_at}
+use Prim.Native.Nat.{ℕ, ◌+◌, ◌-◌, ◌≤◌, ◌<◌}
 use native.Mathlib.Omega.{arith}
-use Rattle.std.specs.List.{fold}
-use lib.Bits.{bit_and}
 use lib.ListN.{length, get_or, take, drop}
 use borrow.Author.Tests.{eqb-true}
 use denote.Enum.Bare.{sameb}
 use Rattle.relations.specs.contracts.Reach.{the_type}
 use Rattle.relations.specs.declared.Reach.TheVariants.{Inner, Near, Anywhere}
-use Rattle.relations.specs.Sets.{bit, some_below}
-use Rattle.relations.specs.Axis.{IsCode, code}
-use Rattle.relations.specs.Steps.{OVERLAPPING, joined_of, page_test, near_by, inner_by, reach_by, shared, whole_by, rows_have}
-use Rattle.relations.proofs.Tests.{all_below, all-at, and_left, and_right}
-use Rattle.relations.proofs.Bits.{bit-and}
+use Rattle.relations.specs.Sets.{bit, some_below, listed}
+use Rattle.relations.specs.Axis.{CODES, IsCode, code}
+use Rattle.relations.specs.Steps.{OVERLAPPING, joined_of, page_test, near_by, inner_by, reach_by, has_overlapping, whole_by, rows_have}
+use Rattle.relations.proofs.Tests.{all_below, all-at, and_left}
+use Rattle.relations.proofs.Bits.{bit-and, listed_at, length-listed, listed_of}
 use Rattle.relations.proofs.Sides.{side-lt, code-over}
 use Rattle.relations.proofs.Near.{leaf-less}
 
@@ -31,16 +28,11 @@ pub record Overlapping (c : ℕ) : Type 0 where
 pub overlapping : (p1 p2 q1 q2 : ℕ) → p1 < q2 → q1 < p2 → Overlapping (code p1 p2 q1 q2)
 overlapping p1 p2 q1 q2 h k = subst Overlapping (code-over p1 p2 q1 q2 h k) (record { low = omega arith; high = omega (arith, side-lt p2 q2, side-lt p1 q1) })
 
--- as the source takes what those rows have in common
-pub shared-so_far : (rows : List ℕ) (n : ℕ) → n + 3 ≤ length rows → fold bit_and (get_or rows 2 0) (take n (drop 3 rows)) ≡ shared rows n
-unfolding shared
-shared-so_far rows zero l = refl
-shared-so_far rows (suc n) l =
-    let here : n < length (drop 3 rows) = omega (arith, length-drop 3 rows) in
-    let place : 3 + n ≡ n + 3 = omega arith in
-    ap (fold bit_and (get_or rows 2 0)) (take-suc (drop 3 rows) n 0 here)
-    ∙ fold-append bit_and (get_or rows 2 0) (take n (drop 3 rows)) _
-    ∙ ap₂ bit_and (shared-so_far rows n (omega arith)) (get_or-drop 3 rows n 0 ∙ ap (λ (k : ℕ). get_or rows k 0) place)
+-- the nine rows of these codes
+pub nine-rows : (rows : List ℕ) → length rows ≡ CODES → take 9 (drop 2 rows) ≡ listed (λ k. get_or rows (k + 2) 0) 9
+nine-rows rows l =
+    listed_of _ 9 (take 9 (drop 2 rows)) (search (rules, tests))
+    (λ k h. get_or-take 9 (drop 2 rows) k 0 h ∙ get_or-drop 2 rows k 0 ∙ ap (λ (n : ℕ). get_or rows n 0) (omega arith))
 
 -- the bits of OVERLAPPING
 own_bits : all_below (λ k. bit OVERLAPPING (k + 2)) 9 ≡ true
@@ -48,27 +40,31 @@ unfolding all_below some_below bit
 own_bits = refl
 
 module _ (rows : List ℕ) where
-  shared-bit : (n h k : ℕ) → h ≤ n → bit (shared rows n) k ≡ true → bit (get_or rows (h + 2) 0) k ≡ true
-  unfolding shared
-  shared-bit zero h k l e = let z : h ≡ 0 = omega arith in rw z e
-  shared-bit (suc n) h k l e = go (λ m. shared-bit n h k m (and_left _ _ both)) (ℕ_discrete h (suc n))
+  row-whole : whole_by rows ≡ true → (h : ℕ) → h < 9 → has_overlapping (get_or rows (h + 2) 0) ≡ true
+  unfolding whole_by
+  row-whole w h l = go (has_overlapping (get_or rows (h + 2) 0)) refl
     where
-      both : (bit (shared rows n) k && bit (get_or rows (n + 3) 0) k) ≡ true
-      both = sym (bit-and (shared rows n) (get_or rows (n + 3) 0) k) ∙ e
+      go : (b : Bool) → has_overlapping (get_or rows (h + 2) 0) ≡ b → b ≡ true
+      go true e = refl
+      go false e =
+          absurd (false≢true (sym (list_all_at has_overlapping nine h 0 (omega (arith, length-listed row 9)) (ap has_overlapping (listed_at row 9 h l) ∙ e)) ∙ w))
+        where
+          row : ℕ → ℕ
+          row k = get_or rows (k + 2) 0
 
-      go : (h ≤ n → bit (get_or rows (h + 2) 0) k ≡ true) → Dec (h ≡ suc n) → bit (get_or rows (h + 2) 0) k ≡ true
-      go ih (yes z) = let y : h + 2 ≡ n + 3 = omega arith in rw y (and_right (bit (shared rows n) k) _ both)
-      go ih (no z) = ih (omega arith)
+          nine : List ℕ
+          nine = listed row 9
 
   pub whole-leaf : whole_by rows ≡ true → (i j : ℕ) → Overlapping i → Overlapping j → rows_have rows i j ≡ true
-  unfolding whole_by rows_have
+  unfolding rows_have
   whole-leaf w i j oi oj =
       let own : bit OVERLAPPING (j - 3 + 2) ≡ true = all-at (λ k. bit OVERLAPPING (k + 2)) 9 (j - 3) own_bits (omega arith) in
-      let all : bit (shared rows 8) (j - 3 + 2) ≡ true =
-      and_left _ _ (sym (bit-and (shared rows 8) OVERLAPPING (j - 3 + 2)) ∙ ap (λ x. bit x (j - 3 + 2)) (eqb-true _ _ w) ∙ own) in
+      let row : ℕ = get_or rows (i - 3 + 2) 0 in
       let a : j - 1 ≡ j - 3 + 2 = omega arith in
       let b : i - 1 ≡ i - 3 + 2 = omega arith in
-      rw (a, b) (shared-bit 8 (i - 3) (j - 3 + 2) (omega arith) all)
+      rw (a, b)
+      (and_left (bit row (j - 3 + 2)) (bit OVERLAPPING (j - 3 + 2))
+      (sym (bit-and row OVERLAPPING (j - 3 + 2)) ∙ ap (λ x. bit x (j - 3 + 2)) (eqb-true _ _ (row-whole w (i - 3) (omega (arith, oi.high)))) ∙ own))
 
   pub whole-page : whole_by rows ≡ true → (i j : ℕ) → Overlapping i → Overlapping j → page_test (joined_of rows) i j ≡ true
   whole-page w i j oi oj = go (page_test (joined_of rows) i j) refl

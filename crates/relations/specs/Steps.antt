@@ -1,6 +1,7 @@
 -- What the inner functions are held to: the side of a number, rows of one relation and of one clause, and the row sets joined for a page's code.
 use Rattle.std.specs.Prelude.{Bool, not, cond, ◌&&◌, ◌||◌, List, [], ◌∷◌, ℕ, zero, suc, ◌+◌, ◌-◌, leb, ltb, eqb, get_or}
 use Rattle.std.specs.Int.Bits.{bit_and, bit_or}
+use Rattle.std.specs.List.{list_all}
 use Rattle.relations.specs.declared.Reach.{Reach}
 use Rattle.relations.specs.declared.Reach.TheVariants.{Inner, Near, Anywhere}
 use Rattle.relations.specs.Sets.{digit, bit, packed, some_below, listed}
@@ -59,7 +60,7 @@ AROUND = 5
 unfoldable pub open_at : List ℕ → ℕ → Bool
 open_at joined c = page_test joined c AROUND || page_test joined AROUND c
 
--- nothing beyond the reference can be admitted: what lies there has code 1, 2 or 13 on some axis
+-- nothing is admitted with code 1, 2 or 13 on an axis, so both codes are in 3 to 12
 unfoldable pub near_by : List ℕ → Bool
 near_by joined = not (open_at joined 1) && (not (open_at joined 2) && not (open_at joined CODES))
 
@@ -73,17 +74,16 @@ unfoldable pub reach_by : List ℕ → Reach
 unfolding near_by inner_by
 reach_by joined = cond (inner_by joined) Inner (cond (near_by joined) Near Anywhere)
 
--- the codes 3 to 11 as a number; what the rows of codes 3 to n + 3 have in common
+-- the codes 3 to 11 as a number; a row has them all
 abbrev pub OVERLAPPING : ℕ
 OVERLAPPING = 2_044
 
-unfoldable pub shared : List ℕ → ℕ → ℕ
-shared rows zero = get_or rows 2 0
-shared rows (suc n) = bit_and (shared rows n) (get_or rows (n + 3) 0)
+abbrev pub has_overlapping : ℕ → Bool
+has_overlapping row = eqb (bit_and row OVERLAPPING) OVERLAPPING
 
 -- all 81 configurations with both codes in 3 to 11 are admitted
 unfoldable pub whole_by : List ℕ → Bool
-whole_by rows = eqb (bit_and (shared rows 8) OVERLAPPING) OVERLAPPING
+whole_by rows = list_all has_overlapping (listed (λ k. get_or rows (k + 2) 0) 9)
 
 -- they are, and no others: the admitted set of overlap
 unfoldable pub overlap_by : List ℕ → List ℕ → Bool

@@ -1,14 +1,14 @@
 // Axis codes, relations, admitted sets, and the thirteen sets of what can stand inside a page.
 #![tactic(auto)]
 
-ghost use Rattle.std.specs.Prelude.{◌≡◌, ℕ, suc, ◌<◌, ◌^◌};
+ghost use Rattle.std.specs.Prelude.{◌≡◌, ℕ, suc, ◌-◌, ◌<◌, ◌^◌};
 ghost use Rattle.refusals.specs.Numbers.{refusal_of};
 ghost use Rattle.relations.specs.Sets.{listed, ones_from};
 ghost use Rattle.relations.specs.Axis.{CODES, code, IsCode};
 ghost use Rattle.relations.specs.Relation.{sets_of};
 ghost use Rattle.relations.specs.Query.{count_of, some_bad, refusal_of as clauses_refusal, admitted_of, admitted_set_of};
-ghost use Rattle.relations.specs.Steps.{side_of, named_row, with_relation, cut_to};
-ghost use Rattle.relations.specs.Steps.{union_of, joined_of, node_masks, page_test, open_at, near_by, inner_by, reach_by, overlap_by, rows_have};
+ghost use Rattle.relations.specs.Steps.{side_of, named_row, with_relation, cut_to, rows_have};
+ghost use Rattle.relations.specs.Steps.{union_of, joined_of, node_masks, page_test, open_at, near_by, inner_by, reach_by, overlap_by};
 
 mod set_bits;
 
@@ -27,6 +27,15 @@ pub const CLAUSES: usize = 8;
 pub struct Code {
     pub number: usize,
     pub ghost one_of_thirteen: { IsCode number },
+}
+
+impl Code {
+    // Its place in thirteen rows or bits.
+    fn index(self) -> usize
+        ensures { result ≡ self.number - 1 }
+    {
+        self.number - 1
+    }
 }
 
 /// Row set i of a query, at place i - 1: its bit j - 1 says whether configuration (i, j) is admitted.
@@ -206,7 +215,7 @@ impl RowSets {
     pub fn has(&self, i: Code, j: Code) -> bool
         ensures { result ≡ rows_have self.now.rows i.number j.number }
     {
-        (self.rows[i.number - 1] >> (j.number - 1)) % 2 == 1
+        (self.rows[i.index()] >> j.index()) % 2 == 1
     }
 
     /// How many configurations are admitted.
@@ -239,10 +248,11 @@ impl From<Result<RowSets, Refusal>> for AdmittedSet {
 /// How far from the reference rectangles can be admitted.
 #[derive(Clone, Copy, Debug, PartialEq, Eq)]
 pub enum Reach {
-    /// Both codes are in 3 to 11: more than edges meet.
+    /// Both codes are in 3 to 11: the insides of the rectangle and of the reference meet.
     Inner,
-    /// No code is 1, 2 or 13: the rectangle touches the reference or overlaps it.
+    /// Both codes are in 3 to 12: on each axis the rectangle starts below the reference's end, and reaches its start or passes it.
     Near,
+    /// Some code may be 1, 2 or 13.
     Anywhere,
 }
 
@@ -293,7 +303,7 @@ impl PageTest {
     pub fn may_hold(&self, cy: Code, cx: Code) -> bool
         ensures { result ≡ page_test self.now.below cy.number cx.number }
     {
-        self.below[cy.number - 1] & self.masks[cx.number - 1] != 0
+        self.below[cy.index()] & self.masks[cx.index()] != 0
     }
 
     // Whether something admitted can stand below a page of code c on one axis, whatever its code on the other.
@@ -304,7 +314,7 @@ impl PageTest {
         self.may_hold(c, AROUND) || self.may_hold(AROUND, c)
     }
 
-    /// Whether nothing beyond the reference can be admitted.
+    /// Whether nothing is admitted but with both codes in 3 to 12.
     #[tactic(auto, unfolding(crate::specs::Steps::near_by))]
     pub fn is_near(&self) -> bool
         ensures { result ≡ near_by self.now.below }
@@ -314,7 +324,9 @@ impl PageTest {
             && !self.is_open(Code { number: CODES })
     }
 
-    /// How far rectangles can be admitted. Most queries ask for contact, and a walk then passes by what lies beyond without its codes.
+    /// How far rectangles can be admitted: a walk passes by what lies beyond without its codes. Of the single relations, overlap to
+    /// contains and the weak bounded directions are `Inner`; `Near` are queries such as "just south and weak east". Disjoint, meet and
+    /// the other directions admit code 1, 2 or 13, so they gain nothing.
     #[tactic(auto, unfolding(crate::specs::Steps::reach_by, crate::specs::Steps::inner_by))]
     pub fn reach(&self) -> Reach
         ensures { result ≡ reach_by self.now.below }
@@ -344,9 +356,8 @@ impl PageTest {
         if !self.is_inner() {
             return false;
         }
-        let shared = set.rows[3..=10]
+        set.rows[2..=10]
             .iter()
-            .fold(set.rows[2], |shared, row| shared & row);
-        shared & OVERLAPPING == OVERLAPPING
+            .all(|row| row & OVERLAPPING == OVERLAPPING)
     }
 }

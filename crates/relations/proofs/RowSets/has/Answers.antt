@@ -6,4 +6,4 @@ use Rattle.relations.proofs.RowSets.has.Goals as goal
 
 pub returns : goal.returns
 unfolding rows_have bit
-returns c = refl
+returns c = rw (c.index.ensures, c.index-2.ensures) refl

@@ -1,49 +1,30 @@
--- Each entry marks its number exactly when its rectangle is admitted.
-use Prim.Native.Nat.{◌<◌}
-use mathlib.Core.Path.{refl, sym, ap, subst, ◌∙◌}
+-- Each entry marks its number exactly when its rectangle is admitted; what lies beyond the window is not.
+use mathlib.Core.Path.{refl, sym, ap, ◌∙◌}
 use mathlib.Core.Bool.{true, false}
-use Rattle.pages.specs.Sizes.{PIECES}
-use Rattle.pages.specs.Lists.{concat_map, Every}
 use Rattle.pages.specs.Left.{left}
-use Rattle.query.specs.Steps.{Small, admitted_r}
-use Rattle.query.specs.Marks.{marked}
-use Rattle.query.specs.Search.{admits_in, table_of}
-use Rattle.query.proofs.Edges.{piece-entries}
+use Rattle.query.proofs.Leaf.{marking-all, marking-first, marking-step, marking-none}
 use Rattle.query.proofs.WindowLemmas.{beyond-fails}
-use Rattle.query.proofs.Walking.{marking-step, hits-leaf}
 use Rattle.query.proofs.searches.Search.mark_leaf.Goals as goal
+use Rattle.query.proofs.searches.Search.mark_leaf.Goals.{else-not-is_beyond-via-then-not-is_beyond+else-admits, else-not-is_beyond-via-else-not-is_beyond}
 
 pub loop-e-init : goal.loop-e-init
-loop-e-init c =
-    let e = ap left c.into_iter-e-iterator.ensures.into_iter_gives ∙ c.entries-e-items.ensures in record {
-      marks = ap (λ es. marked c.args.marks.now (concat_map (admitted_r (admits_in c.args.self.now)) es)) e;
-      each = subst (Every (λ x. Small x.rect × (x.r < PIECES))) (sym e) (piece-entries _ _ _ c.requires refl);
-    }
+loop-e-init c = marking-all _ _ _ _ _ c.requires (ap left c.into_iter-e-iterator.ensures.into_iter_gives ∙ c.entries-e-items.ensures)
 
 pub loop-e-preserved-then-admits : goal.loop-e-preserved-then-admits
 loop-e-preserved-then-admits c =
-    let s = c.args.self.now in
-    let l = c.loop-e in
-    let steps = c.in-Some.ensures.steps in
-    let each = subst (Every (λ x. Small x.rect × (x.r < PIECES))) steps l.invariant.each in record {
-      marks = marking-step (admits_in s) _ _ c.in-Some.e l.marks _ true steps (sym c.if-admits.true ∙ c.admits.ensures) c.mark.ensures ∙ l.invariant.marks;
-      each = each.1;
-    }
+    marking-step _ _ _ _ _ _ c.loop-e.invariant _ _ c.in-Some.ensures.steps _ true (sym c.if-admits.true ∙ c.admits.ensures) c.mark.ensures
 
-pub loop-e-preserved-then-is_beyond : goal.loop-e-preserved-then-is_beyond
-loop-e-preserved-then-is_beyond c =
-    let s = c.args.self.now in
-    let l = c.loop-e in
-    let steps = c.in-Some.ensures.steps in
-    let each = subst (Every (λ x. Small x.rect × (x.r < PIECES))) steps l.invariant.each in record {
-      marks = marking-step (admits_in s) _ _ c.in-Some.e l.marks l.marks false steps (beyond-fails _ _ _ s.leaves _ each.0.0 _ c.is_beyond.ensures c.if-is_beyond.true) refl ∙ l.invariant.marks;
-      each = each.1;
-    }
+pub loop-e-preserved : goal.loop-e-preserved
+loop-e-preserved c =
+    let i = c.loop-e.invariant in
+    let s = c.in-Some.ensures.steps in
+    let first = marking-first _ _ _ _ _ _ i _ _ s in
+    marking-step _ _ _ _ _ _ i _ _ s _ false
+    (elim c.else-not-is_beyond.branch [
+      | else-not-is_beyond-via-then-not-is_beyond+else-admits w ↦ sym w.if-admits.false ∙ w.admits.ensures
+      | else-not-is_beyond-via-else-not-is_beyond w ↦ beyond-fails _ _ _ c.args.self.now.leaves _ first.0 _ c.is_beyond.ensures w.if-not-is_beyond.false
+    ])
+    refl
 
 pub returns : goal.returns
-unfolding marked
-returns c =
-    let s = c.args.self.now in
-    let l = c.loop-e in
-    ap (λ es. marked l.marks (concat_map (admitted_r (admits_in s)) es)) (sym c.in-None.ensures.steps.0)
-    ∙ (l.invariant.marks ∙ ap (marked c.args.marks.now) (sym (hits-leaf (admits_in s) (table_of s) c.args.p c.requires.level)))
+returns c = marking-none _ _ _ _ _ _ c.loop-e.invariant c.in-None.ensures.steps.0

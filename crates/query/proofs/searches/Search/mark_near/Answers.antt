@@ -1,50 +1,27 @@
 -- Each entry marks its number exactly when it does not lie beyond the window, and that is when its rectangle is admitted.
-use Prim.Native.Nat.{◌<◌}
-use mathlib.Core.Path.{refl, sym, ap, subst, ◌∙◌}
+use mathlib.Core.Path.{refl, sym, ap, ◌∙◌}
 use mathlib.Core.Bool.{true, false}
-use Rattle.pages.specs.Sizes.{PIECES}
-use Rattle.pages.specs.Lists.{concat_map, Every}
 use Rattle.pages.specs.Left.{left}
-use Rattle.query.specs.Steps.{Small, admitted_r}
-use Rattle.query.specs.Marks.{marked}
-use Rattle.query.specs.Search.{admits_in, table_of}
-use Rattle.query.proofs.Edges.{piece-entries}
+use Rattle.query.proofs.Leaf.{marking-all, marking-first, marking-step, marking-none}
 use Rattle.query.proofs.WindowLemmas.{whole-decides, beyond-fails}
-use Rattle.query.proofs.Walking.{marking-step, hits-leaf}
 use Rattle.query.proofs.searches.Search.mark_near.Goals as goal
 
 pub loop-e-init : goal.loop-e-init
-loop-e-init c =
-    let e = ap left c.into_iter-e-iterator.ensures.into_iter_gives ∙ c.entries-e-items.ensures in record {
-      marks = ap (λ es. marked c.args.marks.now (concat_map (admitted_r (admits_in c.args.self.now)) es)) e;
-      each = subst (Every (λ x. Small x.rect × (x.r < PIECES))) (sym e) (piece-entries _ _ _ c.requires.page refl);
-    }
+loop-e-init c = marking-all _ _ _ _ _ c.requires.page (ap left c.into_iter-e-iterator.ensures.into_iter_gives ∙ c.entries-e-items.ensures)
 
 pub loop-e-preserved-then-not-is_beyond : goal.loop-e-preserved-then-not-is_beyond
 loop-e-preserved-then-not-is_beyond c =
-    let s = c.args.self.now in
-    let l = c.loop-e in
-    let steps = c.in-Some.ensures.steps in
-    let each = subst (Every (λ x. Small x.rect × (x.r < PIECES))) steps l.invariant.each in
-    let admitted = whole-decides _ _ _ s.leaves _ each.0.0 false (sym c.if-not-is_beyond.true ∙ c.is_beyond.ensures) c.requires.whole in record {
-      marks = marking-step (admits_in s) _ _ c.in-Some.e l.marks _ true steps admitted c.mark.ensures ∙ l.invariant.marks;
-      each = each.1;
-    }
+    let i = c.loop-e.invariant in
+    let s = c.in-Some.ensures.steps in
+    let first = marking-first _ _ _ _ _ _ i _ _ s in
+    marking-step _ _ _ _ _ _ i _ _ s _ true (whole-decides _ _ _ c.args.self.now.leaves _ first.0 false (sym c.if-not-is_beyond.true ∙ c.is_beyond.ensures) c.requires.whole) c.mark.ensures
 
 pub loop-e-preserved : goal.loop-e-preserved
 loop-e-preserved c =
-    let s = c.args.self.now in
-    let l = c.loop-e in
-    let steps = c.in-Some.ensures.steps in
-    let each = subst (Every (λ x. Small x.rect × (x.r < PIECES))) steps l.invariant.each in record {
-      marks = marking-step (admits_in s) _ _ c.in-Some.e l.marks l.marks false steps (beyond-fails _ _ _ s.leaves _ each.0.0 _ c.is_beyond.ensures c.if-not-is_beyond.false) refl ∙ l.invariant.marks;
-      each = each.1;
-    }
+    let i = c.loop-e.invariant in
+    let s = c.in-Some.ensures.steps in
+    let first = marking-first _ _ _ _ _ _ i _ _ s in
+    marking-step _ _ _ _ _ _ i _ _ s _ false (beyond-fails _ _ _ c.args.self.now.leaves _ first.0 _ c.is_beyond.ensures c.if-not-is_beyond.false) refl
 
 pub returns : goal.returns
-unfolding marked
-returns c =
-    let s = c.args.self.now in
-    let l = c.loop-e in
-    ap (λ es. marked l.marks (concat_map (admitted_r (admits_in s)) es)) (sym c.in-None.ensures.steps.0)
-    ∙ (l.invariant.marks ∙ ap (marked c.args.marks.now) (sym (hits-leaf (admits_in s) (table_of s) c.args.p c.requires.page.level)))
+returns c = marking-none _ _ _ _ _ _ c.loop-e.invariant c.in-None.ensures.steps.0

@@ -5,4 +5,6 @@ use Rattle.query.proofs.Halves.{window-kept}
 use Rattle.query.proofs.window.Window.new.Goals as goal
 
 pub returns : goal.returns
-returns c = ap₂ window_in c.paired.ensures c.paired-2.ensures ∙ window-kept c.args.w c.requires
+returns c =
+    let w = c.window_for-w.ensures in
+    ap₂ window_in c.paired.ensures c.paired-2.ensures ∙ window-kept _ w.small ∙ w.window
