@@ -1,11 +1,12 @@
--- The turned clause as the source makes it, from four parts of the clause.
+-- The turned clause as the source makes it, from the bytes of the clause.
 use Prim.Native.Nat.{ℕ, ◌+◌, ◌-◌, ◌*◌, ◌/◌, ◌%◌, ◌^◌, ◌<◌}
 use native.Mathlib.Omega.{arith}
 use native.Mathlib.Decide.{dec_lt}
-use mathlib.Core.Path.{◌≡◌, ap, ap₂, ◌∙◌}
-use Rattle.std.specs.Int.{rotate_left, w32}
-use Rattle.std.specs.Int.Bits.{bit_or, or_zero_r}
-use Rattle.std.proofs.lemmas.Nat.{or_block}
+use mathlib.Core.Path.{◌≡◌, ap, ◌∙◌}
+use mathlib.Core.List.{List, ◌++◌}
+use lib.ListN.{take, drop}
+use Rattle.std.specs.Int.{to_le_bytes, from_le_bytes, w64}
+use Rattle.std.specs.List.{slice_rotate_right}
 use borrow.Author.Tests.{lt-ltb, le-ltb}
 use Rattle.relations.specs.Sets.{bit}
 use Rattle.relations.specs.Relation.{RELATIONS}
@@ -49,17 +50,17 @@ module _ (c : ℕ) where
           (ap (bit made) e ∙ (joined-high 8 c from_north (8 + m) ∙ (joined-high 8 (c / 2 ^ 32) from_east m ∙ (joined-low 24 (c / 2 ^ 8) beyond m (omega arith)
           ∙ (bit_shifted c 8 m ∙ ap (bit c) f)))))
 
-  -- rotating the bits of the four directions puts west below the other three
-  abbrev directions : ℕ
-  directions = c / 2 ^ 8 % 2 ^ 32
+  -- the bytes with those of the directions rotated: west below the other three
+  rotated : List ℕ → List ℕ
+  rotated bytes = take 1 bytes ++ (slice_rotate_right (take 4 (drop 1 bytes)) 1 ++ drop 4 (drop 1 bytes))
 
-  rotated : rotate_left w32 directions 8 ≡ c / 2 ^ 32 % 2 ^ 8 + 2 ^ 8 * (c / 2 ^ 8 % 2 ^ 24)
-  rotated =
-      let west : ℕ = directions / 2 ^ 24 in
-      let others : ℕ = directions % 2 ^ 24 in
-      let moved : directions * 2 ^ 8 % 2 ^ 32 ≡ others * 2 ^ 8 + 0 = omega arith in
-      let kept : west ≡ 0 * 2 ^ 8 + west = omega arith in
-      ap₂ bit_or moved kept ∙ (or_block 8 others 0 0 west (omega arith) (omega arith) ∙ rw or_zero_r (omega arith))
+  from-rotated : c < 2 ^ 64 → from_le_bytes w64 (rotated (to_le_bytes w64 c)) ≡ made
+  unfolding rotated
+  from-rotated l = omega (arith, l)
 
-  pub made_is : c % 2 ^ 8 + 2 ^ 8 * rotate_left w32 directions 8 + 2 ^ 40 * beyond ≡ turn_clause c
-  made_is = rw rotated (omega arith) ∙ turn_is made c (omega arith) (λ k l. made-from k (made-bit k l) l)
+  pub made_is : (bytes part : List ℕ) (r : ℕ) → c < 2 ^ 64 → bytes ≡ to_le_bytes w64 c → part ≡ slice_rotate_right (take 4 (drop 1 bytes)) 1
+      → r ≡ from_le_bytes w64 (take 1 bytes ++ (part ++ drop 4 (drop 1 bytes))) → r ≡ turn_clause c
+  unfolding rotated
+  made_is bytes part r l b p e =
+      e ∙ (ap (λ ps. from_le_bytes w64 (take 1 bytes ++ (ps ++ drop 4 (drop 1 bytes)))) p
+      ∙ (ap (λ bs. from_le_bytes w64 (rotated bs)) b ∙ (from-rotated l ∙ turn_is made c (omega arith) (λ k l. made-from k (made-bit k l) l))))

@@ -6,16 +6,10 @@ ghost use Rattle.turning.specs.Turn.{turned_rect, turn_clause};
 
 use pages::{EDGE, Rect};
 
-// The eight kinds of a direction, and the relations without one, take eight bits of a clause each.
-const DIRECTION_BITS: u32 = 8;
+// Byte 0 of a clause has the relations without a direction; the eight kinds of each direction have a byte, from north on.
+const NORTH: usize = 1;
 
-const EIGHT_BITS: u64 = 1 << 8;
-
-// The bits of the four directions, from north on.
-const FOUR_DIRECTIONS: u64 = 1 << 32;
-
-// Where the bits that stand for no relation begin.
-const BEYOND: u64 = 1 << 40;
+const WEST: usize = 4;
 
 // The rectangle after the turn; zeros for one that is not valid.
 #[tactic(auto, using(crate::proofs::Rects::answer_refused, crate::proofs::Rects::edges_fit))]
@@ -38,8 +32,7 @@ pub fn turned_rect(r: Rect) -> Rect
 pub fn turned_clause(clause: u64) -> u64
     ensures { result ≡ turn_clause clause }
 {
-    let topological = clause % EIGHT_BITS;
-    let directions = (clause / EIGHT_BITS % FOUR_DIRECTIONS) as u32;
-    let turned = u64::from(directions.rotate_left(DIRECTION_BITS));
-    topological + EIGHT_BITS * turned + BEYOND * (clause / BEYOND)
+    let mut bytes = clause.to_le_bytes();
+    bytes[NORTH..=WEST].rotate_right(1);
+    u64::from_le_bytes(bytes)
 }
