@@ -3,8 +3,8 @@ ghost use Rattle.std.specs.Prelude.{◌≡◌, ◌-◌, ◌≤◌, ◌<◌, leng
 ghost use Rattle.std.specs.Iterator.{at_most};
 ghost use Rattle.pages.specs.Sizes.{PIECES};
 ghost use Rattle.query.specs.Calls.{answer_of, query_sound};
-ghost use Rattle.job.specs.Words.{piece_count, query_start, query_at};
-ghost use Rattle.job.specs.Steps.{clause_in, HasRoom, Gathers, table_at, query_line_at, answer_after};
+ghost use Rattle.job.specs.Words.{query_start, query_at};
+ghost use Rattle.job.specs.Steps.{clause_in, HasRoom, Gathers, full_table, query_line_at, answer_after};
 
 use crate::words::{Word, clauses_at, first_clauses, words_at};
 use crate::{CLAUSE_WORDS, Job, Lines, QUERY_HEAD};
@@ -60,9 +60,9 @@ impl<'a> Iterator for Queries<'a> {
 
     fn next(&mut self) -> Option<Query<'a>> {
         let position = self.positions.next()?;
-        let [x1, y1, x2, y2, count] = words_at::<QUERY_HEAD>(self.job.words, self.start);
+        let [x1, y1, x2, y2, clauses] = words_at::<QUERY_HEAD>(self.job.words, self.start);
         let first = self.start + QUERY_HEAD;
-        let count = count as usize;
+        let count = clauses as usize;
         let query = Query {
             job: self.job,
             position,
@@ -85,7 +85,7 @@ impl Query<'_> {
 
     /// Answers it, and gathers its line.
     pub fn answer<const N: usize>(&self, table: &[u32], answer: &mut [u16], lines: &mut Lines<N>)
-        requires { (table.now ≡ table_at self.now.job.bytes.now (piece_count self.now.job.bytes.now))
+        requires { (table.now ≡ full_table self.now.job.bytes.now)
             × (length answer.old ≡ PIECES) × HasRoom N lines.old }
         ensures line { Gathers lines.old lines.new (query_line_at self.now.job.bytes.now self.now.position) }
         ensures answer { answer.new ≡ answer_after self.now.job.bytes.now self.now.position answer.old }

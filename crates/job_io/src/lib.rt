@@ -6,7 +6,7 @@ ghost use Rattle.std.specs.Io.{ReadsAtMost};
 ghost use Rattle.std.specs.Io.KnownBytes.{Appends, Consumes, IsAtEnd, ReadConsumes};
 ghost use Rattle.pages.specs.Calls.{empty_words};
 ghost use Rattle.job.specs.Words.{piece_count, query_count, output};
-ghost use Rattle.job.specs.Steps.{HasRoom, table_at, piece_line_at, query_line_at, lines_to};
+ghost use Rattle.job.specs.Steps.{HasRoom, full_table, piece_line_at, query_line_at, lines_to};
 ghost use Rattle.job_io.specs.Gathered.{kept, held_pieces, held_queries, held_at_end, Gathered};
 ghost use Rattle.job_io.specs.Printed.{Printed};
 ghost use Rattle.job_io.specs.Prints.{Prints};
@@ -106,7 +106,7 @@ impl<'a, W: Write> Output<'a, W> {
 #[tactic(auto, using(crate::proofs::Gathered::piece_laws))]
 fn place_pieces<W: Write>(job: &Job, table: &mut [u32], out: &mut Output<W>) -> io::Result<()>
     requires { (table.old ≡ empty_words) × (out.old.lines ≡ []) }
-    ensures placed { OnOk result (table.new ≡ table_at job.now.bytes.now (piece_count job.now.bytes.now)) }
+    ensures placed { OnOk result (table.new ≡ full_table job.now.bytes.now) }
     ensures held { OnOk result (out.new.lines ≡ held_pieces BUFFER_BYTES job.now.bytes.now) }
     ensures all { OnOk result (Prints W.contents out.old out.new
         (lines_to (piece_line_at job.now.bytes.now) (piece_count job.now.bytes.now))) }
@@ -120,7 +120,7 @@ fn place_pieces<W: Write>(job: &Job, table: &mut [u32], out: &mut Output<W>) -> 
 
 #[tactic(auto, using(crate::proofs::Gathered::query_laws))]
 fn answer_queries<W: Write>(job: &Job, table: &[u32], out: &mut Output<W>) -> io::Result<()>
-    requires { (table.now ≡ table_at job.now.bytes.now (piece_count job.now.bytes.now))
+    requires { (table.now ≡ full_table job.now.bytes.now)
         × (out.old.lines ≡ held_pieces BUFFER_BYTES job.now.bytes.now) }
     ensures held { OnOk result (out.new.lines ≡ held_queries BUFFER_BYTES job.now.bytes.now) }
     ensures all { OnOk result (Prints W.contents out.old out.new
