@@ -16,7 +16,7 @@ use Rattle.history.proofs.Replaying.{placed-more}
 use Rattle.job.specs.Job.{Query}
 use Rattle.job.specs.Output.{piece_line, query_line, answer_of, piece_lines, query_lines, job_lines, bad_job}
 use Rattle.job.specs.Words.{piece_count, piece_at, pieces_in, query_count, query_start, query_at, queries_in, job_in, well_formed, output}
-use Rattle.job.specs.Steps.{table_at, piece_line_at, query_line_at, lines_to}
+use Rattle.job.specs.Steps.{table_at, full_table, piece_line_at, query_line_at, lines_to}
 use Rattle.job.proofs.Tables.{first-table}
 
 -- what the definitions say of no item, and of one and the others
@@ -108,7 +108,7 @@ module _ (b : List ℕ) where
   unfolding piece_line_at
   piece-line n = refl
 
-  query-line : (n : ℕ) → query_line_at b n ≡ query_line n (answer_of (table_at b (piece_count b)) (query_at b (query_start b n)))
+  query-line : (n : ℕ) → query_line_at b n ≡ query_line n (answer_of (full_table b) (query_at b (query_start b n)))
   unfolding query_line_at
   query-line n = refl
 
@@ -120,11 +120,11 @@ module _ (b : List ℕ) where
       ∙ ap (λ w. piece_lines 0 empty_words (pieces_in b n) ++ piece_line n (place_call w (piece_at b n).number (piece_at b n).rect).0) (table_is n)
       ∙ rw (← piece-line n, piece-lines n)
 
-  query-lines : (n : ℕ) → query_lines 0 (table_at b (piece_count b)) (queries_in b n) ≡ lines_to (query_line_at b) n
-  query-lines zero = ap (query_lines 0 (table_at b (piece_count b))) no-query ∙ no-queries 0 (table_at b (piece_count b))
+  query-lines : (n : ℕ) → query_lines 0 (full_table b) (queries_in b n) ≡ lines_to (query_line_at b) n
+  query-lines zero = ap (query_lines 0 (full_table b)) no-query ∙ no-queries 0 (full_table b)
   query-lines (suc n) =
-      ap (query_lines 0 (table_at b (piece_count b))) (last-query n)
-      ∙ queries-last 0 n (table_at b (piece_count b)) (queries_in b n) (query_at b (query_start b n)) (omega (arith, length-queries n))
+      ap (query_lines 0 (full_table b)) (last-query n)
+      ∙ queries-last 0 n (full_table b) (queries_in b n) (query_at b (query_start b n)) (omega (arith, length-queries n))
       ∙ rw (← query-line n, query-lines n)
 
   job-lines : job_lines (job_in b) ≡ piece_lines 0 empty_words (pieces_in b (piece_count b)) ++ query_lines 0 (placed empty_words (pieces_in b (piece_count b))) (queries_in b (query_count b))

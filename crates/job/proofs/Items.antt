@@ -18,7 +18,7 @@ use Rattle.job.specs.Sizes.{JOB_BYTES, WORD_BYTES, QUERY_HEAD, CLAUSE_COUNT_AT, 
 use Rattle.job.specs.Job.{Query}
 use Rattle.job.specs.Output.{piece_line, query_line, room, answer_of}
 use Rattle.job.specs.Words.{word_at, rect_at, clauses_at, piece_count, piece_start, piece_at, query_count, query_start, query_at, well_formed}
-use Rattle.job.specs.Steps.{table_at, piece_line_at, query_line_at, answer_after}
+use Rattle.job.specs.Steps.{table_at, full_table, piece_line_at, query_line_at, answer_after}
 use Rattle.job.proofs.Places.{first-start, next_start, ends-before, starts-after}
 use Rattle.job.proofs.Tables.{place_is, query-is, fine-table}
 use Rattle.job.proofs.Asking.{same_line}
@@ -67,11 +67,8 @@ query-asks b i at n cs e w q = q ∙ rw (w, e) refl
 
 -- a query answered, from what the query call returned
 module _ (b : List ℕ) (i : ℕ) (table answer : List ℕ) (a : Answer) (after : List ℕ) (reference : Rect) (clauses : List ℕ)
-    (et : table ≡ table_at b (piece_count b)) (er : reference ≡ (query_at b (query_start b i)).reference) (ec : clauses ≡ (query_at b (query_start b i)).clauses)
+    (et : table ≡ full_table b) (er : reference ≡ (query_at b (query_start b i)).reference) (ec : clauses ≡ (query_at b (query_start b i)).clauses)
     (size : length answer ≡ PIECES) (called : (a, after) ≡ query_sound table reference clauses answer) where
-  abbrev end : List ℕ
-  end = table_at b (piece_count b)
-
   abbrev query : Query
   query = query_at b (query_start b i)
 
@@ -79,23 +76,23 @@ module _ (b : List ℕ) (i : ℕ) (table answer : List ℕ) (a : Answer) (after 
   unfolding room
   room-size = length-replicate {A = ℕ} PIECES 0
 
-  line_at : query_line_at b i ≡ query_line i (query_call end query.reference query.clauses room)
+  line_at : query_line_at b i ≡ query_line i (query_call (full_table b) query.reference query.clauses room)
   unfolding query_line_at answer_of
   line_at = refl
 
-  answer_at : answer_after b i answer ≡ (query_call end query.reference query.clauses answer).1
+  answer_at : answer_after b i answer ≡ (query_call (full_table b) query.reference query.clauses answer).1
   unfolding answer_after
   answer_at = refl
 
-  as-asked : (a, after) ≡ query_sound end query.reference query.clauses answer
+  as-asked : (a, after) ≡ query_sound (full_table b) query.reference query.clauses answer
   as-asked = called ∙ rw (et, er, ec)
 
   pub line-made : query_line i (a, after) ≡ query_line_at b i
   line-made =
       ap (query_line i) as-asked
-      ∙ same_line end query.reference query.clauses i answer room (size ∙ sym room-size)
-      ∙ ap (query_line i) (sym (query-is end (fine-table b (piece_count b)) query.reference query.clauses room))
+      ∙ same_line (full_table b) query.reference query.clauses i answer room (size ∙ sym room-size)
+      ∙ ap (query_line i) (sym (query-is (full_table b) (fine-table b (piece_count b)) query.reference query.clauses room))
       ∙ sym line_at
 
   pub answer-left : after ≡ answer_after b i answer
-  answer-left = ap (λ x. x.1) (as-asked ∙ sym (query-is end (fine-table b (piece_count b)) query.reference query.clauses answer)) ∙ sym answer_at
+  answer-left = ap (λ x. x.1) (as-asked ∙ sym (query-is (full_table b) (fine-table b (piece_count b)) query.reference query.clauses answer)) ∙ sym answer_at

@@ -5,4 +5,6 @@ use Rattle.job.specs.declared.queries.Queries.{Queries}
 
 -- the query at the next position, unless all were given
 abbrev pub GivesQuery : Queries → Option Query → Queries → Type 0
-GivesQuery s r t = MatchOption r (s.next ≡ s.job.queries) (λ q. (q.job.bytes.now ≡ s.job.bytes.now) × (q.position ≡ s.next) × (t.job.bytes.now ≡ s.job.bytes.now) × (t.next ≡ s.next + 1))
+GivesQuery s r t =
+    MatchOption r (s.positions.start ≡ s.job.queries) λ q.
+    (q.job.bytes.now ≡ s.job.bytes.now) × (q.position ≡ s.positions.start) × (t.job.bytes.now ≡ s.job.bytes.now) × (t.positions.start ≡ s.positions.start + 1)

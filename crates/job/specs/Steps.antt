@@ -23,6 +23,10 @@ unfolding place_call empty_words
 table_at b zero = empty_words
 table_at b (suc i) = (place_call (table_at b i) (piece_at b i).number (piece_at b i).rect).1
 
+-- the table after all of them
+abbrev pub full_table : List ℕ → List ℕ
+full_table b = table_at b (piece_count b)
+
 -- the line of piece i
 unfoldable pub piece_line_at : List ℕ → ℕ → List ℕ
 unfolding piece_line place_call table_at
@@ -31,14 +35,14 @@ piece_line_at b i = piece_line i (place_call (table_at b i) (piece_at b i).numbe
 -- the line of query i
 unfoldable pub query_line_at : List ℕ → ℕ → List ℕ
 unfolding query_line answer_of table_at query_at query_start
-query_line_at b i = query_line i (answer_of (table_at b (piece_count b)) (query_at b (query_start b i)))
+query_line_at b i = query_line i (answer_of (full_table b) (query_at b (query_start b i)))
 
 -- the answer slice after query i, from what it held before
 unfoldable pub answer_after : List ℕ → ℕ → List ℕ → List ℕ
 unfolding query_call table_at query_at query_start
 answer_after b i answer =
     let q : Query = query_at b (query_start b i) in
-    (query_call (table_at b (piece_count b)) q.reference q.clauses answer).1
+    (query_call (full_table b) q.reference q.clauses answer).1
 
 -- the lines of the first n items
 abbrev pub lines_to : (ℕ → List ℕ) → ℕ → List ℕ

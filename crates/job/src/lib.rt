@@ -80,9 +80,9 @@ impl<'a> Job<'a> {
         }
         let words = words_of(bytes)?;
         let pieces = word_at(words, 0)?;
-        let count = 1 + CALL_WORDS * pieces as usize;
-        let queries = word_at(words, count)?;
-        let start = count + 1;
+        let counted_at = 1 + CALL_WORDS * pieces as usize;
+        let queries = word_at(words, counted_at)?;
+        let start = counted_at + 1;
         let end = end_of_queries(words, start, queries)?;
         if words.len() != end {
             return None;

@@ -3,8 +3,8 @@ ghost use Rattle.std.specs.Prelude.{◌≡◌, ◌-◌, ◌≤◌, ◌<◌, leng
 ghost use Rattle.std.specs.Iterator.{at_most};
 ghost use Rattle.pages.specs.Sizes.{PIECES};
 ghost use Rattle.query.specs.Calls.{answer_of, query_sound};
-ghost use Rattle.job.specs.Words.{piece_count, query_start, query_at};
-ghost use Rattle.job.specs.Steps.{clause_in, HasRoom, Gathers, table_at, query_line_at, answer_after};
+ghost use Rattle.job.specs.Words.{query_start, query_at};
+ghost use Rattle.job.specs.Steps.{clause_in, HasRoom, Gathers, full_table, query_line_at, answer_after};
 
 use crate::words::{Word, clauses_at, first_clauses, words_at};
 use crate::{CLAUSE_WORDS, Job, Lines, QUERY_HEAD};
@@ -12,6 +12,7 @@ use pages::Rect;
 use query::Found;
 use refusals::Refusal;
 use soundness::SoundTable;
+use std::ops::Range;
 
 /// A query of a job: its position, its reference and the words of its clauses.
 #[derive(Clone, Copy)]
@@ -29,20 +30,20 @@ pub struct Query<'a> {
 #[derive(Drop)]
 pub struct Queries<'a> {
     pub job: Job<'a>,
-    pub next: u32,
+    pub positions: Range<u32>,
     start: usize,
-    pub ghost listed: { next ≤ job.queries },
-    pub ghost begins: { start ≡ query_start job.bytes.now next },
+    pub ghost listed: { (positions.start ≤ positions.end) × (positions.end ≡ job.queries) },
+    pub ghost begins: { start ≡ query_start job.bytes.now positions.start },
 }
 
 impl<'a> Job<'a> {
     pub fn queries(&self) -> Queries<'a>
         ensures same { result.job.bytes.now ≡ self.now.bytes.now }
-        ensures first { result.next ≡ 0 }
+        ensures first { result.positions.start ≡ 0 }
     {
         Queries {
             job: *self,
-            next: 0,
+            positions: 0..self.queries,
             start: self.start,
         }
     }
@@ -53,25 +54,22 @@ impl<'a> Iterator for Queries<'a> {
 
     ghost use Rattle.job.specs.Queries.{GivesQuery};
 
-    ghost remaining = { λ s. at_most (s.job.queries - s.next) };
+    ghost remaining = { λ s. at_most (s.positions.end - s.positions.start) };
 
     ghost next_gives = { GivesQuery };
 
     fn next(&mut self) -> Option<Query<'a>> {
-        if self.next == self.job.queries {
-            return None;
-        }
-        let [x1, y1, x2, y2, count] = words_at::<QUERY_HEAD>(self.job.words, self.start);
+        let position = self.positions.next()?;
+        let [x1, y1, x2, y2, clauses] = words_at::<QUERY_HEAD>(self.job.words, self.start);
         let first = self.start + QUERY_HEAD;
-        let count = count as usize;
+        let count = clauses as usize;
         let query = Query {
             job: self.job,
-            position: self.next,
+            position,
             reference: Rect { x1, y1, x2, y2 },
             clauses: clauses_at(self.job.words, first, count),
         };
         self.start = first + CLAUSE_WORDS * count;
-        self.next += 1;
         Some(query)
     }
 }
@@ -87,7 +85,7 @@ impl Query<'_> {
 
     /// Answers it, and gathers its line.
     pub fn answer<const N: usize>(&self, table: &[u32], answer: &mut [u16], lines: &mut Lines<N>)
-        requires { (table.now ≡ table_at self.now.job.bytes.now (piece_count self.now.job.bytes.now))
+        requires { (table.now ≡ full_table self.now.job.bytes.now)
             × (length answer.old ≡ PIECES) × HasRoom N lines.old }
         ensures line { Gathers lines.old lines.new (query_line_at self.now.job.bytes.now self.now.position) }
         ensures answer { answer.new ≡ answer_after self.now.job.bytes.now self.now.position answer.old }

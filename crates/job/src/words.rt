@@ -12,7 +12,6 @@ use std::array;
 // A word of 32 bits, its lowest byte first.
 pub(crate) type Word = [u8; WORD_BYTES];
 
-// The words that the bytes make up, if they are whole words.
 #[tactic(auto, using(crate::proofs::Reading::joined))]
 pub(crate) fn words_of(bytes: &[u8]) -> Option<&[Word]>
     ensures { MatchOption result (0 < length bytes.now % WORD_BYTES) (λ words. InWords bytes.now words.now) }
@@ -23,7 +22,6 @@ pub(crate) fn words_of(bytes: &[u8]) -> Option<&[Word]>
     }
 }
 
-// Word `i`, if there is one.
 #[tactic(auto, using(crate::proofs::Reading::word_of))]
 pub(crate) fn word_at(words: &[Word], i: usize) -> Option<u32>
     ensures { MatchOption result (length words.now ≤ i) (λ word. (i < length words.now) × (word ≡ word_at (concat words.now) i)) }
@@ -32,7 +30,6 @@ pub(crate) fn word_at(words: &[Word], i: usize) -> Option<u32>
     Some(u32::from_le_bytes(*word))
 }
 
-// The `N` words from word `i` on.
 pub(crate) fn words_at<const N: usize>(words: &[Word], i: usize) -> [u32; N]
     requires { i + N ≤ length words.now }
     ensures { (k : ℕ) → k < N → get_or result k 0 ≡ word_at (concat words.now) (i + k) }
@@ -40,7 +37,6 @@ pub(crate) fn words_at<const N: usize>(words: &[Word], i: usize) -> [u32; N]
     array::from_fn(|k| u32::from_le_bytes(words[i + k]))
 }
 
-// The clauses from word `i` on, each as its words.
 #[tactic(auto, using(crate::proofs::Reading::clauses_of))]
 pub(crate) fn clauses_at(words: &[Word], i: usize, count: usize) -> &[[Word; CLAUSE_WORDS]]
     requires { i + CLAUSE_WORDS * count ≤ length words.now }
@@ -58,7 +54,6 @@ fn clause_in(words: &[Word; CLAUSE_WORDS]) -> u64
     u64::from_le_bytes([a, b, c, d, e, f, g, h])
 }
 
-// The first clauses: as many as a query may have, and one more.
 pub(crate) fn first_clauses(clauses: &[[Word; CLAUSE_WORDS]]) -> ArrayVec<u64, CLAUSES_READ>
     ensures { result.items ≡ map clause_in (take CLAUSES_READ clauses.now) }
 {

@@ -7,10 +7,9 @@ use native.Mathlib.Numerals.{add-one}
 use borrow.Author.Tests.{le-leb, lt-leb, leb-true, leb-false}
 use lib.ListN.{length}
 use lib.Dec.{T, leb}
-use Rattle.std.proofs.Common.{inl, inr, Some, None, Result, Ok, Err, IfOk, OnErr, arith, take, length-append, length-take-le}
-use Rattle.std.proofs.lemmas.List.{take-append-le, take_all}
+use Rattle.std.proofs.Common.{inl, inr, Some, None, IfSome, is_some, arith, take, length-append, length-take-le}
+use Rattle.std.proofs.lemmas.List.{take-append-le}
 use Rattle.std.proofs.Math.Seq.{take-append-add}
-use Rattle.std.specs.Result.{result_unwrap_or}
 use borrow.Rule.Slice.PartMut.{put_mid}
 use Rattle.std.specs.declared.option.Option.{Option}
 use Rattle.std.specs.Io.KnownBytes.{Appends, Consumes, IsAtEnd, Keeps}
@@ -23,7 +22,8 @@ use Rattle.job.specs.Steps.{table_at, piece_line_at, query_line_at, lines_to}
 use Rattle.job.proofs.Claimed.{claimed}
 use Rattle.job.proofs.Places.{too_long}
 use Rattle.job.proofs.Tables.{first-table}
-use Rattle.job_io.specs.Gathered.{kept, held, held_pieces, held_queries, held_at_end, Gathered}
+use Rattle.job.specs.declared.Job.{Job}
+use Rattle.job_io.specs.Gathered.{kept, held, held_pieces, held_queries, output_of, Gathered}
 use Rattle.job_io.specs.declared.Output.{Output}
 use Rattle.job_io.specs.Printed.{Printed}
 use Rattle.job_io.specs.Prints.{Prints}
@@ -62,10 +62,6 @@ pub queries_held : (size : ℕ) (b : List ℕ) → held_queries size b ≡ held 
 unfolding held_queries
 queries_held size b = refl
 
-held-tests : (size : ℕ) (b : List ℕ) → held_at_end size b ≡ cond (well_formed b) (held_queries size b) bad_job
-unfolding held_at_end
-held-tests size b = refl
-
 pub ruleset kept_laws = (kept_all, kept_none)
 
 pub ruleset piece_laws = (no_line, no_piece, line_more, pieces_held)
@@ -97,15 +93,11 @@ module _ {W : Type 0} (contents : W → Option (List ℕ)) where
       (prints-both from before _ (lines_to f n) (f n) so (prints-line before mid new (f n) room line))
 
   -- all that is printed in the end is the output
-  pub all-good : (b b' : List ℕ) (before between after : Output W) → b ≡ b' → well_formed b ≡ true → Prints contents before between (lines_to (piece_line_at b) (piece_count b))
-      → Prints contents between after (lines_to (query_line_at b) (query_count b)) → Prints contents before after (output b')
-  all-good b b' before between after e good pieces queries =
-      subst (Prints contents before after) (sym (claimed.in_order b (subst T (sym good) tt)) ∙ ap output e)
+  pub all-good : (b : List ℕ) (before between after : Output W) → well_formed b ≡ true → Prints contents before between (lines_to (piece_line_at b) (piece_count b))
+      → Prints contents between after (lines_to (query_line_at b) (query_count b)) → Prints contents before after (output b)
+  all-good b before between after good pieces queries =
+      subst (Prints contents before after) (sym (claimed.in_order b (subst T (sym good) tt)))
       (prints-both before between after (lines_to (piece_line_at b) (piece_count b)) (lines_to (query_line_at b) (query_count b)) pieces queries)
-
-  pub all-bad : (b : List ℕ) (before : Output W) (new : List ℕ) → well_formed b ≡ false → new ≡ before.lines ++ bad_job → Prints contents before (record { to = before.to; lines = new }) (output b)
-  all-bad b before new bad e =
-      subst (Prints contents before (record { to = before.to; lines = new })) (sym (claimed.bad b bad)) (prints-line before before new bad_job (prints-none before) e)
 
 -- what the buffer holds is the end of the text
 kept-gathered : (size : ℕ) (text before : List ℕ) → Gathered text before → Gathered text (kept size before)
@@ -135,14 +127,9 @@ module _ (size : ℕ) (b : List ℕ) where
       let all = lines-gathered size _ (held_pieces size b) (query_line_at b) pieces-gathered (query_count b) in
       record { sent = all.sent; whole = claimed.in_order b good ∙ all.whole ∙ ap (λ l. all.sent ++ l) (sym (queries_held size b)) }
 
-  -- what the buffer holds at the end, of a well-formed job and of any other
-  pub good-end : (front : List ℕ) → well_formed b ≡ true → front ≡ held_queries size b → (front ≡ held_at_end size b) × Gathered (output b) front
-  good-end front good e =
-      (e ∙ sym (held-tests size b ∙ ap (λ t. cond t (held_queries size b) bad_job) good), subst (Gathered (output b)) (sym e) (queries-gathered (subst T (sym good) tt)))
-
-  pub bad-end : (front : List ℕ) → well_formed b ≡ false → front ≡ bad_job → (front ≡ held_at_end size b) × Gathered (output b) front
-  bad-end front bad e =
-      (e ∙ sym (held-tests size b ∙ ap (λ t. cond t (held_queries size b) bad_job) bad), record { sent = []; whole = claimed.bad b bad ∙ sym e })
+  -- what the buffer holds at the end of a well-formed job
+  pub good-end : (front : List ℕ) → well_formed b ≡ true → front ≡ held_queries size b → (front ≡ held_queries size b) × Gathered (output b) front
+  good-end front good e = (e, subst (Gathered (output b)) (sym e) (queries-gathered (subst T (sym good) tt)))
 
 -- bytes that fill the slice are the front of an input that no job is; fewer are the input
 pub printed : (read : List ℕ) (input left old new : Option (List ℕ)) (failed : Type 0) → Consumes input left read → (length read ≤ JOB_BYTES → IsAtEnd left)
@@ -157,17 +144,15 @@ printed read (Some b) (Some rest) old new failed all at_end text = inl (subst (A
         let long = leb-false (length read) JOB_BYTES h in
         claimed.bad read (sym (too_long read long)) ∙ sym (claimed.bad b (sym (too_long b (rw (all, length-append read rest) (omega (arith, long))))))
 
--- the same of what a reading gave: after a failed read as many bytes are taken as no job has
-pub printed_of : {E : Type 0} (r : Result ℕ E) (n size : ℕ) (bytes : List ℕ) (input left old new : Option (List ℕ)) (failed : Type 0)
-    → length bytes ≡ size → JOB_BYTES < size → n ≡ result_unwrap_or r size → IfOk r (λ m. m ≤ length bytes) → IfOk r (λ m. Consumes input left (take m bytes))
-    → IfOk r (λ m. m < length bytes → IsAtEnd left) → OnErr r failed → Appends old new (output (take n bytes)) → Printed input failed old new
-printed_of (Ok m) n size bytes input left old new failed whole long e within all at_end fails text =
-    printed (take m bytes) input left old new failed all (λ h. at_end (omega (arith, h, length-take-le m bytes within, whole, long)))
-    (subst (λ k. Appends old new (output (take k bytes))) e text)
-printed_of (Err x) n size bytes None left old new failed whole long e within all at_end fails text = tt
-printed_of (Err x) n size bytes (Some b) left old new failed whole long e within all at_end fails text =
-    let all = ap (λ k. take k bytes) e ∙ take_all size bytes (omega (arith, whole)) in
-    inr (fails, subst (Appends old new) (ap output all ∙ claimed.bad bytes (sym (too_long bytes (omega (arith, whole, long))))) text)
+-- after a failed read no job was read
+pub printed_failed : (input old new : Option (List ℕ)) (failed : Type 0) → failed → Appends old new bad_job → Printed input failed old new
+printed_failed None old new failed fails text = tt
+printed_failed (Some b) old new failed fails text = inr (fails, text)
+
+-- what the job prints that was read from some bytes, or was not
+pub read_prints : (job : Option Job) (b : List ℕ) → is_some job ≡ well_formed b → IfSome job (λ j. j.bytes.now ≡ b) → output_of job ≡ output b
+read_prints None b good same = sym (claimed.bad b (sym good))
+read_prints (Some job) b good same = ap output same
 
 -- a read takes what it gives, behind what was read
 pub take-more : (n more k : ℕ) (bytes rest : List ℕ) → n ≤ length bytes → more ≤ length rest → take (n + more) (put_mid n k bytes rest) ≡ take n bytes ++ take more rest

@@ -1,8 +1,9 @@
 -- What the buffer of lines holds while a job is answered.
-use Rattle.std.specs.Prelude.{ℕ, zero, suc, ◌+◌, ◌≡◌, cond, List, [], ◌++◌, length, leb}
+use Rattle.std.specs.Prelude.{ℕ, zero, suc, ◌+◌, ◌≡◌, cond, List, [], ◌++◌, length, leb, Option, Some, None}
 use Rattle.job.specs.Sizes.{LINE_BYTES}
 use Rattle.job.specs.Output.{bad_job}
-use Rattle.job.specs.Words.{piece_count, query_count, well_formed}
+use Rattle.job.specs.Words.{piece_count, query_count, output}
+use Rattle.job.specs.declared.Job.{Job}
 use Rattle.job.specs.Steps.{piece_line_at, query_line_at}
 
 -- what a buffer of `size` bytes still holds before the next line: nothing where that might not fit, since all was written
@@ -24,9 +25,15 @@ unfoldable pub held_queries : ℕ → List ℕ → List ℕ
 unfolding held_pieces query_line_at
 held_queries size b = held size (held_pieces size b) (query_line_at b) (query_count b)
 
-unfoldable pub held_at_end : ℕ → List ℕ → List ℕ
-unfolding held_queries well_formed bad_job
-held_at_end size b = cond (well_formed b) (held_queries size b) bad_job
+-- what a job that was read prints, and bytes that are none
+abbrev pub output_of : Option Job → List ℕ
+output_of None = bad_job
+output_of (Some job) = output job.bytes.now
+
+-- what the buffer holds in the end
+abbrev pub held_at_end : ℕ → Option Job → List ℕ
+held_at_end size None = bad_job
+held_at_end size (Some job) = held_queries size job.bytes.now
 
 -- The text ends with what the buffer holds; `sent` is some list, all of the text before that. `Printed` speaks of a writer whose contents
 -- std knows; what reaches a file descriptor is run.

@@ -5,9 +5,9 @@ ghost use Rattle.std.specs.Prelude.{◌≡◌, ◌≤◌, ◌<◌, [], length, t
 ghost use Rattle.std.specs.Io.{ReadsAtMost};
 ghost use Rattle.std.specs.Io.KnownBytes.{Appends, Consumes, IsAtEnd, ReadConsumes};
 ghost use Rattle.pages.specs.Calls.{empty_words};
-ghost use Rattle.job.specs.Words.{piece_count, query_count, output};
-ghost use Rattle.job.specs.Steps.{HasRoom, table_at, piece_line_at, query_line_at, lines_to};
-ghost use Rattle.job_io.specs.Gathered.{kept, held_pieces, held_queries, held_at_end, Gathered};
+ghost use Rattle.job.specs.Words.{piece_count, query_count};
+ghost use Rattle.job.specs.Steps.{HasRoom, full_table, piece_line_at, query_line_at, lines_to};
+ghost use Rattle.job_io.specs.Gathered.{kept, held_pieces, held_queries, held_at_end, output_of, Gathered};
 ghost use Rattle.job_io.specs.Printed.{Printed};
 ghost use Rattle.job_io.specs.Prints.{Prints};
 
@@ -66,19 +66,8 @@ struct Output<'a, W> {
     lines: Lines<BUFFER_BYTES>,
 }
 
-impl<'a, W: Write> Output<'a, W> {
-    fn new(to: &'a mut W) -> Self
-        ensures same_writer { result.to.ghost_name ≡ to.entry.ghost_name }
-        ensures writer { result.to.now ≡ to.old }
-        ensures empty { result.lines ≡ [] }
-    {
-        Output {
-            to,
-            lines: Lines::new(),
-        }
-    }
-
-    // Writes what is gathered. Nothing else here writes.
+impl<W: Write> Output<'_, W> {
+    // Nothing else here writes.
     fn flush(&mut self) -> io::Result<()>
         ensures same_writer { self.new.to.ghost_name ≡ self.old.to.ghost_name }
         ensures empty { OnOk result (self.new.lines ≡ []) }
@@ -106,7 +95,7 @@ impl<'a, W: Write> Output<'a, W> {
 #[tactic(auto, using(crate::proofs::Gathered::piece_laws))]
 fn place_pieces<W: Write>(job: &Job, table: &mut [u32], out: &mut Output<W>) -> io::Result<()>
     requires { (table.old ≡ empty_words) × (out.old.lines ≡ []) }
-    ensures placed { OnOk result (table.new ≡ table_at job.now.bytes.now (piece_count job.now.bytes.now)) }
+    ensures placed { OnOk result (table.new ≡ full_table job.now.bytes.now) }
     ensures held { OnOk result (out.new.lines ≡ held_pieces BUFFER_BYTES job.now.bytes.now) }
     ensures all { OnOk result (Prints W.contents out.old out.new
         (lines_to (piece_line_at job.now.bytes.now) (piece_count job.now.bytes.now))) }
@@ -120,7 +109,7 @@ fn place_pieces<W: Write>(job: &Job, table: &mut [u32], out: &mut Output<W>) -> 
 
 #[tactic(auto, using(crate::proofs::Gathered::query_laws))]
 fn answer_queries<W: Write>(job: &Job, table: &[u32], out: &mut Output<W>) -> io::Result<()>
-    requires { (table.now ≡ table_at job.now.bytes.now (piece_count job.now.bytes.now))
+    requires { (table.now ≡ full_table job.now.bytes.now)
         × (out.old.lines ≡ held_pieces BUFFER_BYTES job.now.bytes.now) }
     ensures held { OnOk result (out.new.lines ≡ held_queries BUFFER_BYTES job.now.bytes.now) }
     ensures all { OnOk result (Prints W.contents out.old out.new
@@ -134,13 +123,13 @@ fn answer_queries<W: Write>(job: &Job, table: &[u32], out: &mut Output<W>) -> io
     Ok(())
 }
 
-// Gathers the lines of a job, one behind the other. What is gathered at the end is still to be written.
-fn answer_job<W: Write>(bytes: &[u8], out: &mut Output<W>) -> io::Result<()>
+// Gathers the lines of a job, one behind the other, or that of a bad one. What is gathered at the end is still to be written.
+fn answer_job<W: Write>(read: Option<Job>, out: &mut Output<W>) -> io::Result<()>
     requires { out.old.lines ≡ [] }
-    ensures gathered { OnOk result ((out.new.lines ≡ held_at_end BUFFER_BYTES bytes.now) × Gathered (output bytes.now) out.new.lines) }
-    ensures all { OnOk result (Prints W.contents out.old out.new (output bytes.now)) }
+    ensures gathered { OnOk result ((out.new.lines ≡ held_at_end BUFFER_BYTES read.entry) × Gathered (output_of read.entry) out.new.lines) }
+    ensures all { OnOk result (Prints W.contents out.old out.new (output_of read.entry)) }
 {
-    let Some(job) = Job::read(bytes) else {
+    let Some(job) = read else {
         out.lines.bad_job();
         return Ok(());
     };
@@ -150,20 +139,25 @@ fn answer_job<W: Write>(bytes: &[u8], out: &mut Output<W>) -> io::Result<()>
     answer_queries(&job, &table, out)
 }
 
-// Writes what a job prints.
-fn print_job<W: Write>(bytes: &[u8], to: &mut W) -> io::Result<()>
-    ensures { OnOk result (Appends (W.contents to.old) (W.contents to.new) (output bytes.now)) }
+fn print_job<W: Write>(job: Option<Job>, to: &mut W) -> io::Result<()>
+    ensures { OnOk result (Appends (W.contents to.old) (W.contents to.new) (output_of job.entry)) }
 {
-    let mut out = Output::new(to);
-    answer_job(bytes, &mut out)?;
+    let mut out = Output {
+        to,
+        lines: Lines::new(),
+    };
+    answer_job(job, &mut out)?;
     out.flush()
 }
 
-// Reads a job to its end, and writes what it prints. After a failed read that is what a job prints that is too long.
+// Reads a job to its end, and writes what it prints. After a failed read that is what a bad job prints.
 pub fn run<R: Source, W: Write>(from: &mut R, to: &mut W) -> io::Result<()>
     ensures { OnOk result (Printed (R.remaining from.old) (R.failed from.new) (W.contents to.old) (W.contents to.new)) }
 {
     let mut bytes = [0u8; READ_BYTES];
-    let n = read_all(from, &mut bytes).unwrap_or(READ_BYTES);
-    print_job(&bytes[..n], to)
+    let job = match read_all(from, &mut bytes) {
+        Ok(n) => Job::read(&bytes[..n]),
+        Err(_) => None,
+    };
+    print_job(job, to)
 }

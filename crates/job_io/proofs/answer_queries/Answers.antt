@@ -7,7 +7,7 @@ use Rattle.job_io.proofs.answer_queries.Goals as goal
 pub loop-query-init : goal.loop-query-init
 loop-query-init g c =
     let same = c.into_iter-query-iterator.ensures.into_iter_gives in
-    let first = ap (λ (s : Queries). s.next) same ∙ c.queries-query-items.ensures.first in
+    let first = ap (λ (s : Queries). s.positions.start) same ∙ c.queries-query-items.ensures.first in
     let bytes = ap (λ (s : Queries). s.job.bytes.now) same ∙ c.queries-query-items.ensures.same in
     (tt, tt, bytes, refl, c.requires.1 ∙ rw (first, no_line) refl, rw first (prints-none g.W.Write.contents c.args.out.now))
 
@@ -22,5 +22,5 @@ loop-query-preserved g c =
       step.2 ∙ turn.invariant.2,
       c.answer.auto.answer ∙ turn.invariant.3,
       rw step.3 (line ∙ rw (room.front, turn.invariant.4, line_more) refl),
-      rw step.3 (next-line g.W.Write.contents _ _ _ _ _ turn.query-iterator.next turn.invariant.5 room.all line),
+      rw step.3 (next-line g.W.Write.contents _ _ _ _ _ turn.query-iterator.positions.start turn.invariant.5 room.all line),
     )

@@ -12,5 +12,5 @@ invariant-loop-query g l =
     let b = l.job.bytes.now in
     (goal.iterator-loop-query g).can_next l.query-iterator × (goal.iterator-loop-query g).is_finite l.query-iterator
     × (l.query-iterator.job.bytes.now ≡ b) × (length l.answer ≡ PIECES)
-    × (l.out.lines ≡ held BUFFER_BYTES (held_pieces BUFFER_BYTES b) (query_line_at b) l.query-iterator.next)
-    × Prints g.W.Write.contents l.initial.out l.out (lines_to (query_line_at b) l.query-iterator.next)
+    × (l.out.lines ≡ held BUFFER_BYTES (held_pieces BUFFER_BYTES b) (query_line_at b) l.query-iterator.positions.start)
+    × Prints g.W.Write.contents l.initial.out l.out (lines_to (query_line_at b) l.query-iterator.positions.start)
