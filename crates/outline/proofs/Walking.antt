@@ -1,6 +1,6 @@
 -- The edges of an outline in the order of the walk, which closes it first: totals over them are those over its edges.
 use Prim.Native.Nat.{ℕ, zero, suc, ◌+◌, ◌*◌, ◌/◌, ◌%◌, ◌-◌, ◌≤◌, ◌<◌}
-use mathlib.Core.Path.{◌≡◌, refl, sym, ap, ◌∙◌}
+use mathlib.Core.Path.{◌≡◌, refl, sym, ap, ap₂, ◌∙◌}
 use mathlib.Core.Bool.{Bool, true, false, cond, beq, not, not-not}
 use mathlib.Core.List.{List, [], ◌∷◌, ◌++◌}
 use native.Mathlib.Nat.{zero-add}
@@ -39,13 +39,14 @@ edges-most p ws f = omega (arith, edges-length p (points ws), points-count ws, f
 
 -- the walk begins at the last point
 pub begin-is : (ws : List ℕ) → Fine ws
-    → edges_to (point (get_or ws (length ws - 2) 0) (get_or ws (length ws - 2 + 1) 0)) (points ws) ≡ closing_first (points ws)
+    → edges_to (point (get_or ws (length ws - 2) 0) (get_or ws (length ws - 1) 0)) (points ws) ≡ closing_first (points ws)
 begin-is ws f =
     let k : ℕ = length (points ws) - 1 in
     let n = points-count ws in
-    let e : length ws - 2 ≡ 2 * k = omega (arith, f.even, f.fewest) in
+    let x : length ws - 2 ≡ 2 * k = omega (arith, f.even, f.fewest) in
+    let y : length ws - 1 ≡ 2 * k + 1 = omega (arith, f.even, f.fewest) in
     let at : k < length ws / 2 = omega (arith, f.fewest) in
-    ap (λ (q : Point). edges_to q (points ws)) (ap (λ (n : ℕ). point (get_or ws n 0) (get_or ws (n + 1) 0)) e ∙ sym (point-is ws k at))
+    ap (λ (q : Point). edges_to q (points ws)) (ap₂ (λ (i j : ℕ). point (get_or ws i 0) (get_or ws j 0)) x y ∙ sym (point-is ws k at))
 
 path-last : (p : Point) (ps : List Point) (q : Point) → path p ps q ≡ edges_to p ps ++ (edge (get_or (p ∷ ps) (length ps) (point 0 0)) q ∷ [])
 unfolding path edges_to

@@ -4,7 +4,6 @@ use Rattle.refusals.specs.declared.Refusal.{Refusal}
 use Rattle.refusals.specs.declared.Refusal.TheVariants.{PointCount, CoordinateTooLarge}
 use Rattle.outline.specs.declared.Point.{Point}
 use Rattle.outline.specs.declared.Edge.{Edge}
-use Rattle.outline.specs.declared.point_test.Sides.{Sides}
 use Rattle.outline.specs.Outline.{FARTHEST, point, edge, points}
 use Rattle.outline.specs.Place.{counts, is_on_edge}
 use Rattle.outline.specs.Refusals.{wrong_count, within}
@@ -42,9 +41,6 @@ left e p = e.a * e.d + e.c * p.y + p.x * e.b
 
 abbrev pub right : Edge → Point → ℕ
 right e p = e.b * e.c + e.d * p.x + p.y * e.a
-
-abbrev pub sides_of : Edge → Point → Sides
-sides_of e p = record { left = left e p; right = right e p }
 
 -- nothing where the point is on the edge, or else whether the edge counts
 abbrev pub met_by : Edge → Point → Option Bool

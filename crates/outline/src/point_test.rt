@@ -2,27 +2,12 @@
 ghost use Rattle.std.specs.Prelude.{◌≡◌};
 ghost use Rattle.outline.specs.Outline.{edges};
 ghost use Rattle.outline.specs.Place.{between, place_of};
-ghost use Rattle.outline.specs.Steps.{sides_of, met_by};
+ghost use Rattle.outline.specs.Steps.{met_by};
 
 use super::sums::product;
 use super::words::Outline;
 use super::{Coordinate, Edge, Place, Point};
-
-// Two sums whose difference is twice the signed area of an edge's ends and a point.
-#[derive(Clone, Copy, Debug, PartialEq, Eq)]
-struct Sides {
-    left: u64,
-    right: u64,
-}
-
-fn sides_of(e: &Edge, p: &Point) -> Sides
-    ensures { result ≡ sides_of e.now p.now }
-{
-    Sides {
-        left: product(e.a, e.d) + product(e.c, p.y) + product(p.x, e.b),
-        right: product(e.b, e.c) + product(e.d, p.x) + product(p.y, e.a),
-    }
-}
+use std::cmp::Ordering;
 
 // z is one of v and w, or lies between them.
 #[tactic(auto, unfolding(crate::specs::Place::between))]
@@ -40,19 +25,15 @@ fn met_by(e: &Edge, p: &Point) -> Option<bool>
     if !is_between(e.b, e.d, p.y) {
         return Some(false);
     }
-    let sides = sides_of(e, p);
-    if sides.left == sides.right {
-        return if is_between(e.a, e.c, p.x) {
-            None
-        } else {
-            Some(false)
-        };
+    // Their difference is twice the signed area of the edge's ends and the point.
+    let left = product(e.a, e.d) + product(e.c, p.y) + product(p.x, e.b);
+    let right = product(e.b, e.c) + product(e.d, p.x) + product(p.y, e.a);
+    match left.cmp(&right) {
+        Ordering::Equal if is_between(e.a, e.c, p.x) => None,
+        Ordering::Equal => Some(false),
+        Ordering::Less => Some(p.y < e.b),
+        Ordering::Greater => Some(p.y < e.d),
     }
-    Some(if sides.left < sides.right {
-        p.y < e.b
-    } else {
-        p.y < e.d
-    })
 }
 
 impl Outline<'_> {

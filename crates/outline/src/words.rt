@@ -1,7 +1,7 @@
 // The words of an outline: their refusals, and the edges that they make up.
 ghost use Rattle.std.specs.Prelude.{◌≡◌, ◌≤◌, length};
 ghost use Rattle.std.specs.Iterator.{YieldsFirst, item_count};
-ghost use Rattle.outline.specs.Outline.{MOST_POINTS};
+ghost use Rattle.outline.specs.Outline.{MOST_POINTS, FARTHEST, point};
 ghost use Rattle.outline.specs.Refusals.{wrong_count, within};
 ghost use Rattle.outline.specs.Steps.{outline_of, closing_first};
 
@@ -28,6 +28,17 @@ fn are_within(words: &[u32]) -> bool
     words
         .iter()
         .fold(true, |within, word| within & (*word <= FARTHEST))
+}
+
+// The point of two words that are tested.
+fn point_within(x: u32, y: u32) -> Point
+    requires { (x ≤ FARTHEST) × (y ≤ FARTHEST) }
+    ensures { result ≡ point x y }
+{
+    Point {
+        x: Coordinate { value: x },
+        y: Coordinate { value: y },
+    }
 }
 
 /// The points of words that are not refused.
@@ -67,17 +78,11 @@ impl<'a> Outline<'a> {
         ensures edges { result ≡ closing_first self.now }
         ensures most { length result ≤ MOST_POINTS }
     {
-        let last = self.words.len() - 2;
-        let from = Point {
-            x: Coordinate {
-                value: self.words[last],
-            },
-            y: Coordinate {
-                value: self.words[last + 1],
-            },
+        let [.., x, y] = self.words else {
+            unreachable!()
         };
         Edges {
-            from,
+            from: point_within(*x, *y),
             words: self.words,
         }
     }
@@ -115,10 +120,7 @@ impl<'a> Iterator for Edges<'a> {
         let [x, y, rest @ ..] = self.words else {
             return None;
         };
-        let to = Point {
-            x: Coordinate { value: *x },
-            y: Coordinate { value: *y },
-        };
+        let to = point_within(*x, *y);
         let edge = Edge {
             a: self.from.x,
             b: self.from.y,

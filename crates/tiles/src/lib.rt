@@ -7,7 +7,7 @@ ghost use Rattle.std.specs.Prelude.{◌≡◌, ◌≤◌, ◌<◌};
 ghost use Rattle.tiles.specs.Calls.{shares_call, shares_from};
 ghost use Rattle.tiles.specs.Steps.{MOST_AREA, share_of};
 
-use pages::Rect;
+use pages::{Rect, ValidRect};
 use refusals::{ACCEPTED, Refusal};
 use sides::Sides;
 
@@ -75,7 +75,7 @@ impl From<Result<[TileShare; TILES], Refusal>> for Shares {
 pub fn tile_shares(piece: Rect, reference: Rect) -> Result<[TileShare; TILES], Refusal>
     ensures { shares_from result ≡ shares_call piece reference }
 {
-    let sides = Sides::try_from(piece)?;
-    let lines = Sides::try_from(reference)?;
+    let sides = Sides::from(ValidRect::try_from(piece)?);
+    let lines = Sides::from(ValidRect::try_from(reference)?);
     Ok(sides.shares_by(lines))
 }

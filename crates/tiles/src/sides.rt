@@ -5,8 +5,7 @@ ghost use Rattle.tiles.specs.Tiles.{area_of};
 ghost use Rattle.tiles.specs.Steps.{Short, cut_at, shares_in_tiles};
 
 use super::{STRIPS, TILES, TileShare};
-use pages::Rect;
-use refusals::Refusal;
+use pages::{Rect, ValidRect};
 
 /// A side of a valid rectangle on one axis; of the reference, its two edge lines there.
 #[derive(Clone, Copy, Debug, PartialEq, Eq)]
@@ -21,7 +20,7 @@ impl Side {
     fn length(self) -> u64
         ensures { result ≡ self.end - self.start }
     {
-        (self.end - self.start) as u64
+        u64::from(self.end - self.start)
     }
 
     // Cut at the two lines, each drawn in to the side.
@@ -32,9 +31,9 @@ impl Side {
         let first = lines.start.clamp(self.start, self.end);
         let second = lines.end.clamp(self.start, self.end);
         [
-            (first - self.start) as u64,
-            (second - first) as u64,
-            (self.end - second) as u64,
+            u64::from(first - self.start),
+            u64::from(second - first),
+            u64::from(self.end - second),
         ]
     }
 }
@@ -46,27 +45,17 @@ pub struct Sides {
     y: Side,
 }
 
-impl TryFrom<Rect> for Sides {
-    ghost use Rattle.tiles.specs.Sides.{IsSidesOf};
+impl From<ValidRect> for Sides {
+    ghost use Rattle.tiles.specs.Sides.{rect_with};
 
-    type Error = Refusal;
+    ghost from_gives = { λ v s. rect_with s ≡ v.rect };
 
-    ghost try_from_gives = { IsSidesOf };
-
-    fn try_from(r: Rect) -> Result<Sides, Refusal> {
-        if !r.is_valid() {
-            return Err(Refusal::RectangleNotValid);
+    fn from(valid: ValidRect) -> Sides {
+        let Rect { x1, y1, x2, y2 } = valid.rect;
+        Sides {
+            x: Side { start: x1, end: x2 },
+            y: Side { start: y1, end: y2 },
         }
-        Ok(Sides {
-            x: Side {
-                start: r.x1,
-                end: r.x2,
-            },
-            y: Side {
-                start: r.y1,
-                end: r.y2,
-            },
-        })
     }
 }
 

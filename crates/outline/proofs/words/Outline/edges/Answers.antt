@@ -5,26 +5,17 @@ use Rattle.outline.proofs.Indexed.{accepted-fine, in-range}
 use Rattle.outline.proofs.Walking.{edges-most, begin-is}
 use Rattle.outline.proofs.words.Outline.edges.Goals as goal
 
-pub overflow_sub-last : goal.overflow_sub-last
-overflow_sub-last c = omega (arith, (accepted-fine _ c.self.invariant).fewest)
+pub unreachable-requires : goal.unreachable-requires
+unreachable-requires c = omega (arith, c.in_default.len_below, (accepted-fine _ c.self.invariant).fewest)
 
-pub bounds-self-inside-last : goal.bounds-self-inside-last
-bounds-self-inside-last c = omega (arith, (accepted-fine _ c.self.invariant).fewest)
-
-pub bounds-self-inside-last-2 : goal.bounds-self-inside-last-2
-bounds-self-inside-last-2 c = omega (arith, (accepted-fine _ c.self.invariant).fewest)
-
-pub invariant_of-from : goal.invariant_of-from
-invariant_of-from c = in-range _ _ (accepted-fine _ c.self.invariant).range
-
-pub invariant_of-from-2 : goal.invariant_of-from-2
-invariant_of-from-2 c = in-range _ _ (accepted-fine _ c.self.invariant).range
+pub point_within-requires : goal.point_within-requires
+point_within-requires c = let range = (accepted-fine _ c.self.invariant).range in (in-range _ _ range, in-range _ _ range)
 
 pub invariant_of-result : goal.invariant_of-result
 invariant_of-result c = (accepted-fine _ c.self.invariant).range
 
 pub returns-clause-edges : goal.returns-clause-edges
-returns-clause-edges c = begin-is _ (accepted-fine _ c.self.invariant) ∙ ap closing_first c.self.view_is
+returns-clause-edges c = rw c.point_within.ensures (begin-is _ (accepted-fine _ c.self.invariant) ∙ ap closing_first c.self.view_is)
 
 pub returns-clause-most : goal.returns-clause-most
 returns-clause-most c = edges-most _ _ (accepted-fine _ c.self.invariant)
