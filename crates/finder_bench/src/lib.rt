@@ -9,8 +9,6 @@ use pages::Rect;
 use refusals::refusal_of;
 use soundness::SoundTable;
 
-const RECT_WORDS: usize = 4;
-
 // Answers a query for each reference, each as a call of its own would, and gives the number of all hits.
 #[unsafe(no_mangle)]
 pub extern "C" fn bench_queries(
@@ -24,7 +22,7 @@ pub extern "C" fn bench_queries(
     let Ok(table) = SoundTable::read(table) else {
         return 0;
     };
-    let (rects, _) = references.as_chunks::<RECT_WORDS>();
+    let (rects, _) = references.as_chunks();
     let mut hits: u64 = 0;
     for words in rects {
         if let Ok(found) = query::query_sound(table, Rect::from(*words), clauses, answer) {

@@ -26,6 +26,60 @@ const RECTANGLES: [[u32; 4]; 13] = [
     [150, 200, 250, 300],
 ];
 
+// Names and clauses; at the end what may be refused, with its accepted neighbours.
+const QUERIES: [(&str, &[u64]); 22] = [
+    ("overlap and north", &[1 << 2, 1 << 15]),
+    ("weak corner north", &[1 << 13]),
+    ("equal and contains", &[1 << 5, 1 << 7]),
+    ("equal or contains", &[(1 << 5) + (1 << 7)]),
+    ("disjoint", &[1 << 0]),
+    ("meet", &[1 << 1]),
+    ("overlap", &[1 << 2]),
+    ("covered_by", &[1 << 3]),
+    ("covers", &[1 << 6]),
+    ("every relation", &[(1 << 40) - 1]),
+    (
+        "overlap, and north or east",
+        &[1 << 2, (1 << 15) + (1 << 23)],
+    ),
+    ("no clause", &[]),
+    ("eight clauses", &[1, 1, 1, 1, 1, 1, 1, 4]),
+    ("nine clauses", &[1; 9]),
+    ("nine clauses, all zero", &[0; 9]),
+    ("5000 clauses", &[1; 5000]),
+    ("zero clause", &[0]),
+    ("zero clause last", &[4, 0]),
+    ("bit 39", &[1 << 39]),
+    ("bit 40", &[1 << 40]),
+    ("bit 63", &[1 << 63]),
+    ("bit 40 and bit 0", &[1, (1 << 40) + 1]),
+];
+
+const EQUAL_OR_CORNER: u64 = (1 << 5) + (1 << 12);
+
+// Names and clauses, and the rectangle of a page.
+const PAGES: [(&str, &[u64], [u32; 4]); 7] = [
+    ("equal and contains", &[1 << 5, 1 << 7], [0, 0, 1000, 1000]),
+    (
+        "equal or strong corner",
+        &[EQUAL_OR_CORNER],
+        [100, 250, 200, 300],
+    ),
+    (
+        "equal or strong corner",
+        &[EQUAL_OR_CORNER],
+        [100, 100, 200, 200],
+    ),
+    (
+        "equal or strong corner",
+        &[EQUAL_OR_CORNER],
+        [250, 250, 300, 300],
+    ),
+    ("inside", &[1 << 4], [150, 150, 151, 151]),
+    ("inside", &[1 << 4], [100, 100, 101, 101]),
+    ("inside", &[1 << 4], [0, 0, 100, 100]),
+];
+
 // The codes of a rectangle on y and on x against the reference (100, 100, 200, 200).
 fn codes([x1, y1, x2, y2]: [u32; 4]) -> (Code, Code) {
     (
@@ -73,11 +127,11 @@ fn passing<F: Fn(Code, Code) -> bool>(test: F) -> usize
     requires { F.IsAlwaysCallable test }
 {
     let codes = every_code();
-    let mut count = 0;
-    for first in codes {
-        count += codes.iter().filter(|second| test(first, **second)).count();
-    }
-    count
+    codes
+        .iter()
+        .flat_map(|first| codes.iter().map(move |second| (*first, *second)))
+        .filter(|&(first, second)| test(first, second))
+        .count()
 }
 
 // The size of relation t, which the clause names alone: by the count, by the leaf test, and the pages that it opens.
@@ -112,78 +166,28 @@ fn page(rt: &impl Print, name: &str, clauses: &[u64], rectangle: [u32; 4]) -> io
     }
 }
 
-fn refusals(rt: &impl Print) -> io::Result<()> {
-    query(rt, "no clause", &[])?;
-    query(rt, "eight clauses", &[1, 1, 1, 1, 1, 1, 1, 4])?;
-    query(rt, "nine clauses", &[1; 9])?;
-    query(rt, "nine clauses, all zero", &[0; 9])?;
-    query(rt, "5000 clauses", &[1; 5000])?;
-    query(rt, "zero clause", &[0])?;
-    query(rt, "zero clause last", &[4, 0])?;
-    query(rt, "bit 39", &[1 << 39])?;
-    query(rt, "bit 40", &[1 << 40])?;
-    query(rt, "bit 63", &[1 << 63])?;
-    query(rt, "bit 40 and bit 0", &[1, (1 << 40) + 1])
+fn every_query(rt: &impl Print) -> io::Result<()> {
+    for (name, clauses) in QUERIES {
+        query(rt, name, clauses)?;
+    }
+    Ok(())
 }
 
-fn queries(rt: &impl Print) -> io::Result<()> {
-    query(rt, "overlap and north", &[1 << 2, 1 << 15])?;
-    query(rt, "weak corner north", &[1 << 13])?;
-    query(rt, "equal and contains", &[1 << 5, 1 << 7])?;
-    query(rt, "equal or contains", &[(1 << 5) + (1 << 7)])?;
-    query(rt, "disjoint", &[1])?;
-    query(rt, "meet", &[2])?;
-    query(rt, "overlap", &[4])?;
-    query(rt, "covered_by", &[8])?;
-    query(rt, "covers", &[64])?;
-    query(rt, "every relation", &[(1 << 40) - 1])?;
-    query(
-        rt,
-        "overlap, and north or east",
-        &[4, (1 << 15) + (1 << 23)],
-    )
-}
-
-fn pages(rt: &impl Print) -> io::Result<()> {
-    let equal_or_corner = [(1 << 5) + (1 << 12)];
-    page(
-        rt,
-        "equal and contains",
-        &[1 << 5, 1 << 7],
-        [0, 0, 1000, 1000],
-    )?;
-    page(
-        rt,
-        "equal or strong corner",
-        &equal_or_corner,
-        [100, 250, 200, 300],
-    )?;
-    page(
-        rt,
-        "equal or strong corner",
-        &equal_or_corner,
-        [100, 100, 200, 200],
-    )?;
-    page(
-        rt,
-        "equal or strong corner",
-        &equal_or_corner,
-        [250, 250, 300, 300],
-    )?;
-    page(rt, "inside", &[1 << 4], [150, 150, 151, 151])?;
-    page(rt, "inside", &[1 << 4], [100, 100, 101, 101])?;
-    page(rt, "inside", &[1 << 4], [0, 0, 100, 100])
+fn every_page(rt: &impl Print) -> io::Result<()> {
+    for (name, clauses, rectangle) in PAGES {
+        page(rt, name, clauses, rectangle)?;
+    }
+    Ok(())
 }
 
 fn main(rt: HostRuntime) -> io::Result<()> {
     configurations(&rt)?;
-    queries(&rt)?;
-    refusals(&rt)?;
+    every_query(&rt)?;
     every_relation(&rt)?;
-    pages(&rt)?;
+    every_page(&rt)?;
     // Row set i has code i alone, so the joined rows are the thirteen sets.
     let own = RowSets {
-        rows: [1, 2, 4, 8, 16, 32, 64, 128, 256, 512, 1024, 2048, 4096],
+        rows: array::from_fn(|i| 1 << i),
     };
     print!(rt; "node sets:")?;
     rows_of(&rt, PageTest::new(&own).below)

@@ -40,7 +40,7 @@ inside t l = ltb-true _ _ (all-at inside_right RELATIONS t inside-test l)
 pub before-inside : (t : ℕ) → t < RELATIONS → before t < RELATIONS
 before-inside t l = inside (turn_relation (turn_relation t)) (inside (turn_relation t) (inside t l))
 
--- where a bit of a turned clause comes from, as the source has it
+-- where a bit of a turned clause comes from, as its bytes move
 abbrev pub comes_from : ℕ → ℕ
 comes_from t = cond (ltb t 8) t (cond (ltb t 16) (t + 24) (t - 8))
 

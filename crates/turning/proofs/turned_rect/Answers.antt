@@ -1,4 +1,4 @@
--- `search` finds it too, but of a wrong rectangle it only says that it gave up.
+-- A valid rectangle; without this `search` gives up.
 use mathlib.Core.Path.{sym, ◌∙◌}
 use Rattle.turning.proofs.Rects.{answer_turned}
 use Rattle.turning.proofs.turned_rect.Goals as goal
