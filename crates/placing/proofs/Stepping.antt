@@ -16,7 +16,7 @@ use Rattle.pages.specs.Layout.{page_of, encode_page, page_words}
 use Rattle.pages.specs.Readers.{entry_in, entries_in}
 use Rattle.placing.specs.Place.{ordered}
 use Rattle.pages.specs.Writes.{put_page}
-use Rattle.placing.specs.Steps.{split_into, Written, add_to, widen_entry, parted, settled, chosen_in, place_at, topped, place_in}
+use Rattle.placing.specs.Steps.{split_into, Written, entry_for_in, root_made, add_to, widen_entry, parted, settled, chosen_in, place_at, topped, place_in}
 
 pub split-is : (t w : List ℕ) (p k : ℕ) (e : Entry) (es : List Entry) (u v : List ℕ) → length es ≡ 9 → w ≡ page_words t p → es ≡ ordered (entries_in w FANOUT ++ (e ∷ []))
     → u ≡ put_page t p (encode_page (page_of (get_or w 0 0) (take 4 es))) → v ≡ put_page u k (encode_page (page_of (get_or w 0 0) (take 5 (drop 4 es)))) → v ≡ split_into t p k e
@@ -24,6 +24,11 @@ unfolding split_into
 split-is t w p k e es u v n a b f g =
     let d : take 5 (drop 4 es) ≡ drop 4 es = take_all 5 (drop 4 es) (simp length-drop (omega arith)) in
     g ∙ rw (f, d, b, a)
+
+pub root-is : (t u : List ℕ) (r q level k : ℕ) (a b : Entry) → k < PAGES → k ≡ get_or t 0 0 → a ≡ entry_for_in t r → b ≡ entry_for_in t q
+    → u ≡ put_page t k (encode_page (page_of level (a ∷ (b ∷ [])))) → set (set u 0 (k + 1)) 1 k ≡ root_made t r q level
+unfolding root_made
+root-is t u r q level k a b l is x y z = rw (z, x, y, is, lt-ltb (get_or t 0 0) PAGES (omega (arith, is, l)))
 
 pub place_out : (l : ℕ) (t : List ℕ) (p : ℕ) (e : Entry) → PAGES ≤ p → (None, t) ≡ place_at l t p e
 unfolding place_at
