@@ -1,7 +1,7 @@
 -- Words and points: each word of an accepted outline in range, each point by its index.
 use Prim.Native.Nat.{ℕ, zero, suc, ◌+◌, ◌*◌, ◌/◌, ◌%◌, ◌-◌, ◌≤◌, ◌<◌}
 use mathlib.Core.Path.{◌≡◌, refl, sym, ap, ap₂, ◌∙◌}
-use mathlib.Core.Bool.{Bool, true, false, ◌&&◌, cond, and-true, and_assoc}
+use mathlib.Core.Bool.{Bool, true, false, ◌&&◌, and-true, and_assoc}
 use mathlib.Core.List.{List, [], ◌∷◌}
 use native.Mathlib.Omega.{arith}
 use lib.Dec.{leb, ltb, eqb}
@@ -10,7 +10,7 @@ use lib.Seq.{take-length}
 use borrow.Author.Tests.{leb-true, ltb-false, eqb-false}
 use Rattle.std.specs.List.{fold}
 use Rattle.outline.specs.Outline.{FEWEST_POINTS, MOST_POINTS, FARTHEST, point, points}
-use Rattle.outline.specs.Refusals.{ACCEPTED, wrong_count, within, outline_refusal}
+use Rattle.outline.specs.Refusals.{wrong_count, within}
 use Rattle.outline.proofs.Tests.{and_left, and_right, or-false-both}
 
 -- the word count of an outline, and its range
@@ -34,14 +34,8 @@ count-fine n e =
     by (suc zero) h n = absurd (n refl)
     by (suc (suc r)) h n = absurd (omega (arith, h))
 
-pub accepted-fine : (ws : List ℕ) → outline_refusal ws ws ≡ ACCEPTED → Fine ws
-unfolding outline_refusal
-accepted-fine ws e = go (wrong_count (length ws)) (within ws) refl refl e
-  where
-    go : (a b : Bool) → wrong_count (length ws) ≡ a → within ws ≡ b → ◌≡◌ {A = ℕ} (cond a 10 (cond b 0 11)) 0 → Fine ws
-    go true b p q e = absurd (omega (arith, e))
-    go false true p q e = let c = count-fine (length ws) p in record { even = c.0; fewest = c.1; most = c.2; range = q }
-    go false false p q e = absurd (omega (arith, e))
+pub fine : (ws : List ℕ) → (wrong_count (length ws) ≡ false) × (within ws ≡ true) → Fine ws
+fine ws known = let c = count-fine (length ws) known.0 in record { even = c.0; fewest = c.1; most = c.2; range = known.1 }
 
 -- a word in range, by its index
 pub in-range : (ws : List ℕ) (i : ℕ) → within ws ≡ true → get_or ws i 0 ≤ FARTHEST

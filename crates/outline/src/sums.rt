@@ -11,7 +11,7 @@ pub fn product(v: Coordinate, w: Coordinate) -> u64
     ensures product { result ≡ v * w }
     ensures most { result ≤ LARGEST }
 {
-    v.value as u64 * w.value as u64
+    u64::from(v.value) * u64::from(w.value)
 }
 
 fn cross(e: Edge) -> i64

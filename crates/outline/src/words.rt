@@ -48,16 +48,16 @@ pub struct Outline<'a> {
 }
 
 impl<'a> Model for Outline<'a> {
-    ghost use Rattle.std.specs.Prelude.{List, ◌≡◌};
+    ghost use Rattle.std.specs.Prelude.{List, ◌≡◌, true, false, length};
     ghost use Rattle.outline.specs.declared.Point.{Point};
     ghost use Rattle.outline.specs.Outline.{points};
-    ghost use Rattle.outline.specs.Refusals.{ACCEPTED, outline_refusal};
+    ghost use Rattle.outline.specs.Refusals.{wrong_count, within};
 
     ghost Value = { List Point };
 
     ghost view = { λ o. points o.words.now };
 
-    ghost invariant = { λ o. outline_refusal o.words.now o.words.now ≡ ACCEPTED };
+    ghost invariant = { λ o. (wrong_count (length o.words.now) ≡ false) × (within o.words.now ≡ true) };
 }
 
 impl<'a> Outline<'a> {
