@@ -21,9 +21,9 @@ pub cell-word : (ws : List ℕ) (at w j : ℕ) → j < w → get_or (take w (dro
 cell-word ws at w j l = get_or-take w (drop at ws) j 0 l ∙ get_or-drop at ws j 0
 
 -- and so the entry at place i of a page's words
-pub entry-is : (c : List ℕ) (i : ℕ) → decode_entry (take ENTRY_WORDS (drop (ENTRY_WORDS * i) (drop PAGE_HEAD c))) ≡ entry_in c i
+pub entry_at : (c : List ℕ) (i : ℕ) → decode_entry (take ENTRY_WORDS (drop (PAGE_HEAD + ENTRY_WORDS * i) c)) ≡ entry_in c i
 unfolding decode_entry
-entry-is c i =
+entry_at c i =
     let a : ℕ = PAGE_HEAD + ENTRY_WORDS * i in
     let z : a + 0 ≡ a = omega arith in
     let e0 = cell-word c a ENTRY_WORDS 0 (omega arith) ∙ ap (λ x. get_or c x 0) z in
@@ -31,7 +31,10 @@ entry-is c i =
     let e2 = cell-word c a ENTRY_WORDS 2 (omega arith) in
     let e3 = cell-word c a ENTRY_WORDS 3 (omega arith) in
     let e4 = cell-word c a ENTRY_WORDS 4 (omega arith) in
-    ap (λ x. decode_entry (take ENTRY_WORDS x)) (drop-drop (ENTRY_WORDS * i) PAGE_HEAD c) ∙ (λ k. entry_of (rect_of (e0 k) (e1 k) (e2 k) (e3 k)) (e4 k))
+    λ k. entry_of (rect_of (e0 k) (e1 k) (e2 k) (e3 k)) (e4 k)
+
+pub entry-is : (c : List ℕ) (i : ℕ) → decode_entry (take ENTRY_WORDS (drop (ENTRY_WORDS * i) (drop PAGE_HEAD c))) ≡ entry_in c i
+entry-is c i = ap (λ x. decode_entry (take ENTRY_WORDS x)) (drop-drop (ENTRY_WORDS * i) PAGE_HEAD c) ∙ entry_at c i
 
 module _ (p : Page) where
   page-cell : (i : ℕ) → i < FANOUT → take ENTRY_WORDS (drop (ENTRY_WORDS * i) (drop PAGE_HEAD (encode_page p))) ≡ encode_entry (get_or p.entries i no_entry)

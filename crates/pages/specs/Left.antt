@@ -1,8 +1,8 @@
 -- The entries that an iterator over a page has left.
-use Rattle.std.specs.Prelude.{List, drop}
+use Rattle.std.specs.Prelude.{List, map}
 use Rattle.pages.specs.declared.Entry.{Entry}
 use Rattle.pages.specs.declared.iter.PageEntries.{PageEntries}
-use Rattle.pages.specs.Readers.{entries_in}
+use Rattle.pages.specs.Layout.{decode_entry}
 
 abbrev pub left : PageEntries → List Entry
-left e = drop e.next (entries_in e.page.now e.end)
+left e = map decode_entry e.rest.now

@@ -1,17 +1,15 @@
 // A page's first entries, one after the other.
-ghost use Rattle.std.specs.Prelude.{◌≤◌};
+ghost use Rattle.std.specs.Prelude.{◌≤◌, length};
 ghost use Rattle.std.specs.Iterator.{YieldsFirst, item_count};
 ghost use Rattle.pages.specs.Sizes.{FANOUT};
 
-use super::{Entry, PAGE_WORDS, Rect, entry_of};
+use super::{ENTRY_WORDS, Entry, Rect};
 
-// The entries from place `next` up to `end`; a copy goes over them again.
+// The words of the entries that are left; a copy goes over them again.
 #[derive(Clone, Copy)]
 pub struct PageEntries<'a> {
-    pub(crate) page: &'a [u32; PAGE_WORDS],
-    pub(crate) next: usize,
-    pub(crate) end: usize,
-    ghost within: { end ≤ FANOUT },
+    pub(crate) rest: &'a [[u32; ENTRY_WORDS]],
+    ghost within: { length rest.now ≤ FANOUT },
 }
 
 impl<'a> Iterator for PageEntries<'a> {
@@ -23,14 +21,10 @@ impl<'a> Iterator for PageEntries<'a> {
 
     ghost remaining = { item_count left };
 
-    #[tactic(auto, using(crate::proofs::Firsts::left_done, crate::proofs::Firsts::left_step, crate::proofs::Firsts::left_count))]
     fn next(&mut self) -> Option<Entry> {
-        if self.next >= self.end {
-            return None;
-        }
-        let entry = entry_of(self.page, self.next);
-        self.next += 1;
-        Some(entry)
+        let (words, rest) = self.rest.split_first()?;
+        self.rest = rest;
+        Some(Entry::from(*words))
     }
 }
 

@@ -6,7 +6,7 @@ ghost use Rattle.std.specs.Fn.{FnOnceReturnsAtMut, FnOnceTakesAtMut};
 ghost use Rattle.refusals.specs.Numbers.{refusal_of};
 ghost use Rattle.pages.specs.Sizes.{PAGE_WORDS, PAGES, TABLE_WORDS, FANOUT};
 ghost use Rattle.pages.specs.Rectangles.{rect_of, valid, widen, bounds};
-ghost use Rattle.pages.specs.Layout.{page_words};
+ghost use Rattle.pages.specs.Layout.{decode_entry, page_words};
 ghost use Rattle.pages.specs.Readers.{entry_in, entries_in};
 ghost use Rattle.pages.specs.Writes.{put_page};
 ghost use Rattle.pages.specs.Left.{left};
@@ -92,6 +92,17 @@ impl From<[u32; 4]> for Rect {
     }
 }
 
+impl From<[u32; ENTRY_WORDS]> for Entry {
+    ghost from_gives = { λ w e. e ≡ decode_entry w };
+
+    #[tactic(auto, unfolding(crate::specs::Layout::decode_entry))]
+    fn from(words: [u32; ENTRY_WORDS]) -> Entry {
+        let [x1, y1, x2, y2, r] = words;
+        let rect = Rect { x1, y1, x2, y2 };
+        Entry { rect, r }
+    }
+}
+
 impl Rect {
     // x1 and y1 are below x2 and y2, so two edges are left to test.
     #[tactic(auto, unfolding(crate::specs::Rectangles::valid))]
@@ -153,16 +164,13 @@ fn change_words<F: FnOnce(&mut [u32; PAGE_WORDS])>(words: &mut [u32], change: F)
 }
 
 // The entry at place i of a page's words.
+#[tactic(auto, using(crate::proofs::Cells::entry_at))]
 pub fn entry_of(page: &[u32; PAGE_WORDS], i: usize) -> Entry
     requires { i < FANOUT }
     ensures { result ≡ entry_in page.now i }
 {
     let at = PAGE_HEAD + ENTRY_WORDS * i;
-    let [x1, y1, x2, y2, r] = *as_array::<ENTRY_WORDS>(&page[at..at + ENTRY_WORDS]);
-    Entry {
-        rect: Rect { x1, y1, x2, y2 },
-        r,
-    }
+    Entry::from(*as_array::<ENTRY_WORDS>(&page[at..at + ENTRY_WORDS]))
 }
 
 // The first n entries of a page's words.
@@ -171,10 +179,9 @@ pub fn entries_of(page: &[u32; PAGE_WORDS], n: usize) -> PageEntries<'_>
     ensures items { left result ≡ entries_in page.now n }
     ensures count { length (left result) ≡ n }
 {
+    let (entries, _) = page[PAGE_HEAD..].as_chunks::<ENTRY_WORDS>();
     PageEntries {
-        page,
-        next: 0,
-        end: n,
+        rest: &entries[..n],
     }
 }
 

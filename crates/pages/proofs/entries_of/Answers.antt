@@ -1,5 +1,7 @@
-use Rattle.pages.proofs.Bounds.{length-entries}
+-- The first chunks of the words behind the head.
+use Rattle.std.proofs.Common.{rules, refl}
+use Rattle.pages.proofs.Firsts.{entries-chunks}
 use Rattle.pages.proofs.entries_of.Goals as goal
 
-pub returns-clause-count : goal.returns-clause-count
-returns-clause-count c = length-entries c.args.page.now c.args.n
+pub returns-clause-items : goal.returns-clause-items
+returns-clause-items c = entries-chunks c.args.page.now _ _ _ c.args.n (search rules) refl c.as_chunks.ensures.front (search rules)
