@@ -49,7 +49,8 @@ in-chunks w (suc n) m h =
     let last : decode_entry (get_or cells n []) ≡ entry_in w n = ap decode_entry (chunk-at ENTRY_WORDS m (drop PAGE_HEAD w) n (omega arith)) ∙ entry-is w n in
     rw add-one at (map_more decode_entry cells n [] (omega (arith, length-chunks ENTRY_WORDS m (drop PAGE_HEAD w)))) ∙ rw (in-chunks w n m (omega arith), last)
 
-pub entries-chunks : (w v : List ℕ) (cells : List (List ℕ)) (m n : ℕ) → length w ≡ PAGE_WORDS → v ≡ take (PAGE_WORDS - PAGE_HEAD) (drop PAGE_HEAD w) → cells ≡ first_chunks ENTRY_WORDS m v → n ≤ m → map decode_entry (take n cells) ≡ entries_in w n
+pub entries-chunks : (w v : List ℕ) (cells : List (List ℕ)) (m n : ℕ) → length w ≡ PAGE_WORDS
+    → v ≡ take (PAGE_WORDS - PAGE_HEAD) (drop PAGE_HEAD w) → cells ≡ first_chunks ENTRY_WORDS m v → n ≤ m → map decode_entry (take n cells) ≡ entries_in w n
 entries-chunks w v cells m n l e f h =
     let k : PAGE_WORDS - PAGE_HEAD ≡ length (drop PAGE_HEAD w) = omega (arith, length-drop PAGE_HEAD w) in
     let whole : v ≡ drop PAGE_HEAD w = e ∙ (ap (λ j. take j (drop PAGE_HEAD w)) k ∙ take-length (drop PAGE_HEAD w)) in

@@ -55,7 +55,8 @@ module _ (w : List ℕ) (long : TABLE_WORDS ≤ length w) (s : T (sound w)) wher
   unfolding Tree
   sound-tree zero p pl e = (
     sound-head 0 p pl e,
-    rw (← leaf-pieces (page (table_in w) p) e) (every-both (λ x. T (valid x.rect)) (λ x. x.r < PIECES) IsPiece (λ x a b. (a, b)) (piece_entries (page (table_in w) p)) (F.valids p pl) (F.numbers p pl)),
+    rw (← leaf-pieces (page (table_in w) p) e)
+        (every-both (λ x. T (valid x.rect)) (λ x. x.r < PIECES) IsPiece (λ x a b. (a, b)) (piece_entries (page (table_in w) p)) (F.valids p pl) (F.numbers p pl)),
   )
   sound-tree (suc l) p pl e = (
     sound-head (suc l) p pl e,

@@ -85,7 +85,8 @@ record Good (w : List ℕ) (q : ℕ) : Type 0 where
   low : l ≤ TOP_LEVEL
   enough : fewest (table_in w) q ≤ length (page (table_in w) q).entries
 
-module _ (w : List ℕ) (k root h : ℕ) (R : Rooted w k root h) (long : TABLE_WORDS ≤ length w) (t : Tree w h (root_fewest h) root) (once : (q : ℕ) → q < length (table_in w).pages → visits w h root q ≡ 1) where
+module _ (w : List ℕ) (k root h : ℕ) (R : Rooted w k root h) (long : TABLE_WORDS ≤ length w)
+    (t : Tree w h (root_fewest h) root) (once : (q : ℕ) → q < length (table_in w).pages → visits w h root q ≡ 1) where
   good-root : Good w root
   unfolding fewest
   good-root = record {

@@ -138,7 +138,8 @@ up zero f = absurd (f refl)
 up (suc l) f = rw sub-one
 
 -- the same by the entries that the page's own tests gave; the marks are those after these tests
-module _ {w : List ℕ} {l m p : ℕ} {h h₁ g g₁ : List Bool} {es : List Entry} (x : Tested PAGES (Head w l m p) (λ q. one (eqb p q)) h true h₁) (same : g₁ ≡ g) (items : es ≡ (page (table_in w) p).entries) where
+module _ {w : List ℕ} {l m p : ℕ} {h h₁ g g₁ : List Bool} {es : List Entry}
+    (x : Tested PAGES (Head w l m p) (λ q. one (eqb p q)) h true h₁) (same : g₁ ≡ g) (items : es ≡ (page (table_in w) p).entries) where
   from : (v : Option Rect) (h' g' : List Bool) → Visited w l m p h g₁ v h' g' → Visited w l m p h g v h' g'
   from v h' g' = subst (λ y. Visited w l m p h y v h' g') same
 

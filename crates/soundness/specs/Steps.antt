@@ -32,6 +32,10 @@ visits w l p q = seen (λ x. one (eqb x q)) (table_in w).pages l p
 abbrev pub stores : List ℕ → ℕ → ℕ → ℕ → ℕ
 stores w l p c = under (is c) (table_in w).pages l p
 
+-- the mark that page p is given
+abbrev pub mark_at : ℕ → ℕ → ℕ
+mark_at p = λ q. one (eqb p q)
+
 -- what is asked of an entry in a leaf
 abbrev pub IsPiece : Entry → Type 0
 IsPiece e = T (valid e.rect) × (e.r < PIECES)

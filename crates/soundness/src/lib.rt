@@ -1,15 +1,14 @@
 // The check call: one walk over the pages from the root, which tests all that soundness asks.
 #![tactic(auto)]
 
-ghost use Rattle.std.specs.Prelude.{◌≡◌, ◌≤◌, ◌<◌, ◌↔◌, IsTrue, IfSome, is_some, false, true, not, length, get_or, set, eqb};
+ghost use Rattle.std.specs.Prelude.{◌≡◌, ◌≤◌, ◌<◌, ◌↔◌, IsTrue, IfSome, is_some, false, true, not, length, get_or, set};
 ghost use Rattle.std.specs.List.{count_by};
 ghost use Rattle.pages.specs.Sizes.{PIECES, PAGES};
-ghost use Rattle.pages.specs.Lists.{one};
 ghost use Rattle.pages.specs.Layout.{page, table_in};
 ghost use Rattle.pages.specs.Left.{left};
 ghost use Rattle.pages.specs.Sound.{is, zeros, sound};
 ghost use Rattle.soundness.specs.Calls.{checked_of, check_call};
-ghost use Rattle.soundness.specs.Steps.{IsPiece, shaped, Head, Tested, LeafTested, Visited, Complete, root_fewest, Rooted};
+ghost use Rattle.soundness.specs.Steps.{mark_at, IsPiece, shaped, Head, Tested, LeafTested, Visited, Complete, root_fewest, Rooted};
 
 mod table;
 
@@ -116,7 +115,7 @@ impl<'a> Walk<'a> {
     // The entries of page p, if it passes its own tests: its number, that it was not visited before, and its shape.
     #[tactic(auto, using(crate::proofs::Heads::entries_are))]
     fn enter(&mut self, level: u32, least: u32, p: u32) -> Option<PageEntries<'a>>
-        ensures tested { Tested PAGES (Head self.old.table.now level least p) (λ q. one (eqb p q)) self.old.seen (is_some result) self.new.seen }
+        ensures tested { Tested PAGES (Head self.old.table.now level least p) (mark_at p) self.old.seen (is_some result) self.new.seen }
         ensures entries { IfSome result (λ entries. left entries ≡ (page (table_in self.old.table.now) p).entries) }
         ensures same { (self.new.table.now ≡ self.old.table.now) × (self.new.numbers ≡ self.old.numbers) }
     {

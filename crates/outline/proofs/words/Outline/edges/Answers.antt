@@ -11,9 +11,6 @@ unreachable-requires c = omega (arith, c.in_default.len_below, (fine _ c.self.in
 pub point_within-requires : goal.point_within-requires
 point_within-requires c = let range = c.self.invariant.1 in (in-range _ _ range, in-range _ _ range)
 
-pub invariant_of-result : goal.invariant_of-result
-invariant_of-result c = c.self.invariant.1
-
 pub returns-clause-edges : goal.returns-clause-edges
 returns-clause-edges c = rw c.point_within.ensures (begin-is _ (fine _ c.self.invariant) ∙ ap closing_first c.self.view_is)
 
