@@ -1,7 +1,7 @@
 -- The places of a set of codes are below thirteen, and each turn joins the row at the next.
 use Rattle.std.proofs.Common.{◌<◌, ℕ, sym, ap, ◌∙◌, subst}
 use Rattle.std.specs.List.{All}
-use Rattle.std.proofs.lemmas.List.Elements.{All-head, All-tail}
+use Rattle.std.proofs.lemmas.List.Elements.{All-tail}
 use Rattle.relations.specs.Sets.{ones_from}
 use Rattle.relations.specs.Axis.{CODES}
 use Rattle.relations.specs.Steps.{union_of}
@@ -15,9 +15,6 @@ pub loop-h-init : goal.loop-h-init
 loop-h-init c =
     let all = c.into_iter-h-iterator.ensures.into_iter_gives ∙ c.new-h-items.ensures ∙ ap (ones_from 0 64) c.from.ensures in
     (subst (All code_place) (sym all) (places_of CODES 51 _ c.requires), ap (union_of _ _) all)
-
-pub bounds-rows-h : goal.bounds-rows-h
-bounds-rows-h c = All-head code_place _ _ (subst (All code_place) c.in-Some.ensures.steps c.loop-h.invariant.0)
 
 pub loop-h-preserved : goal.loop-h-preserved
 unfolding union_of

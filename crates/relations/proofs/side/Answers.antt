@@ -3,8 +3,5 @@ use native.Mathlib.Omega.{arith}
 use Rattle.relations.proofs.Sides.{side-bytes, side-lt}
 use Rattle.relations.proofs.side.Goals as goal
 
-pub overflow_add-result : goal.overflow_add-result
-overflow_add-result c = record { fits = omega (arith, side-bytes c.args.a c.args.b, side-lt c.args.a c.args.b) }
-
 pub returns : goal.returns
 returns c = (side-bytes c.args.a c.args.b, omega (arith, side-bytes c.args.a c.args.b, side-lt c.args.a c.args.b))
