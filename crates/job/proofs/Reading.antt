@@ -13,7 +13,7 @@ use Rattle.std.proofs.lemmas.List.{get_or-take, get_or-drop, drop-drop, map-appe
 use Rattle.pages.specs.Rectangles.{rect_of}
 use Rattle.job.specs.Sizes.{WORD_BYTES, CLAUSE_WORDS}
 use Rattle.job.specs.Words.{word_at, clause_at, clauses_at, rect_at}
-use Rattle.job.specs.Steps.{InWords, WordsFrom, clause_in}
+use Rattle.job.specs.Steps.{WordsFrom, clause_in}
 
 -- each has four bytes
 abbrev pub Cut : List (List ℕ) → Type 0
@@ -51,10 +51,12 @@ drop-words (w ∷ ws) (suc n) cut h =
     drop-words ws n (λ i l. cut (suc i) (omega arith)) (omega arith)
     ∙ sym (ap (λ k. drop k (w ++ concat ws)) more ∙ drop-append-add w (concat ws) (WORD_BYTES * n))
 
+-- words have four bytes each
 length-words : (ws : List (List ℕ)) → Cut ws → length (concat ws) ≡ WORD_BYTES * length ws
 length-words [] cut = refl
 length-words (w ∷ ws) cut = omega (arith, length-append w (concat ws), cut 0 (omega arith), length-words ws (λ i l. cut (suc i) (omega arith)))
 
+-- the words behind the first n, and word k of the bytes from some word on
 pub words_from : (ws : List (List ℕ)) (n : ℕ) → Cut ws → n ≤ length ws → WordsFrom (concat ws) n (drop n ws)
 words_from ws n cut h = (drop-words ws n cut h, omega (arith, length-drop (WORD_BYTES * n) (concat ws), length-drop n ws, length-words ws cut))
 
@@ -103,11 +105,6 @@ last-chunk n zero xs = let none : 0 * n ≡ 0 = omega arith in rw none refl
 last-chunk n (suc k) xs =
     let more : suc k * n ≡ n + k * n = omega arith in
     ap (λ l. take n xs ∷ l) (last-chunk n k (drop n xs)) ∙ rw (more, drop-drop) refl
-
--- word k of some that are read from the words which make up the bytes
-pub read_from : (b : List ℕ) (ws : List (List ℕ)) (read : List ℕ) (n at : ℕ) → InWords b ws → ((k : ℕ) → k < n → get_or read k 0 ≡ word_at (concat ws) (at + k))
-    → (k i : ℕ) → k < n → at + k ≡ i → get_or read k 0 ≡ word_at b i
-read_from b ws read n at cut words k i h e = words k h ∙ ap (λ l. word_at l (at + k)) cut.0 ∙ ap (word_at b) e
 
 -- what the definition says of no clause, and of one more
 pub no_clause : (bytes : List ℕ) (at : ℕ) → clauses_at bytes at 0 ≡ []

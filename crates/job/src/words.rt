@@ -1,7 +1,7 @@
 // Reading a job's little-endian words.
 ghost use Rattle.std.specs.Prelude.{ℕ, ◌≡◌, ◌+◌, ◌*◌, ◌%◌, ◌≤◌, ◌<◌, length, get_or, map, take, drop, MatchOption};
 ghost use Rattle.std.specs.List.{concat};
-ghost use Rattle.job.specs.Sizes.{WORD_BYTES, CLAUSE_WORDS};
+ghost use Rattle.job.specs.Sizes.{WORD_BYTES, QUERY_HEAD, CLAUSE_COUNT_AT, CLAUSE_WORDS};
 ghost use Rattle.job.specs.Words.{word_at, clauses_at, rect_at};
 ghost use Rattle.job.specs.Steps.{InWords, query_size, clause_in};
 
@@ -62,7 +62,7 @@ pub(crate) fn next_query(words: &[Word]) -> Option<(Rect, &[[Word; CLAUSE_WORDS]
     ensures { MatchOption result (length words.now < query_size (concat words.now))
         (λ query. (query_size (concat words.now) ≤ length words.now)
         × (query.0 ≡ rect_at (concat words.now) 0)
-        × (map clause_in query.1.now ≡ clauses_at (concat words.now) 5 (word_at (concat words.now) 4))
+        × (map clause_in query.1.now ≡ clauses_at (concat words.now) QUERY_HEAD (word_at (concat words.now) CLAUSE_COUNT_AT))
         × InWords (drop (WORD_BYTES * query_size (concat words.now)) (concat words.now)) query.2.now) }
 {
     if words.len() < QUERY_HEAD {
