@@ -5,15 +5,15 @@ use mathlib.Core.List.{List, [], ◌∷◌, ◌++◌, map}
 use native.Mathlib.Omega.{arith}
 use native.Mathlib.Nat.{add-zero, div-add-mod}
 use lib.ListN.{length, take, drop, get_or, get_or-append, take-append-drop, length-append, length-drop}
-use lib.Seq.{get_or-append-add, length-take-le}
+use lib.Seq.{get_or-append-add, drop-append-add, length-take-le}
 use Rattle.std.specs.Int.{w32, from_le_bytes}
 use Rattle.std.specs.List.{concat}
 use Rattle.std.specs.Simd.{first_chunks}
 use Rattle.std.proofs.lemmas.List.{get_or-take, get_or-drop, drop-drop, map-append}
 use Rattle.pages.specs.Rectangles.{rect_of}
 use Rattle.job.specs.Sizes.{WORD_BYTES, CLAUSE_WORDS}
-use Rattle.job.specs.Words.{word_at, clause_at, clauses_at}
-use Rattle.job.specs.Steps.{InWords, clause_in}
+use Rattle.job.specs.Words.{word_at, clause_at, clauses_at, rect_at}
+use Rattle.job.specs.Steps.{WordsFrom, clause_in}
 
 -- each has four bytes
 abbrev pub Cut : List (List ℕ) → Type 0
@@ -41,6 +41,49 @@ word_of ws i cut h =
       byte 3 (WORD_BYTES * i + 3) (omega arith) refl,
     )
 
+-- the bytes of the words behind the first n
+drop-words : (ws : List (List ℕ)) (n : ℕ) → Cut ws → n ≤ length ws → concat (drop n ws) ≡ drop (WORD_BYTES * n) (concat ws)
+drop-words ws zero cut h = refl
+drop-words [] (suc n) cut h = absurd (omega arith)
+drop-words (w ∷ ws) (suc n) cut h =
+    let four : length w ≡ WORD_BYTES = cut 0 (omega arith) in
+    let more : WORD_BYTES * suc n ≡ length w + WORD_BYTES * n = omega (arith, four) in
+    drop-words ws n (λ i l. cut (suc i) (omega arith)) (omega arith)
+    ∙ sym (ap (λ k. drop k (w ++ concat ws)) more ∙ drop-append-add w (concat ws) (WORD_BYTES * n))
+
+-- words have four bytes each
+length-words : (ws : List (List ℕ)) → Cut ws → length (concat ws) ≡ WORD_BYTES * length ws
+length-words [] cut = refl
+length-words (w ∷ ws) cut = omega (arith, length-append w (concat ws), cut 0 (omega arith), length-words ws (λ i l. cut (suc i) (omega arith)))
+
+-- the words behind the first n, and word k of the bytes from some word on
+pub words_from : (ws : List (List ℕ)) (n : ℕ) → Cut ws → n ≤ length ws → WordsFrom (concat ws) n (drop n ws)
+words_from ws n cut h = (drop-words ws n cut h, omega (arith, length-drop (WORD_BYTES * n) (concat ws), length-drop n ws, length-words ws cut))
+
+-- word k of those from word s on
+pub word-behind : (b : List ℕ) (s k : ℕ) → word_at (drop (WORD_BYTES * s) b) k ≡ word_at b (s + k)
+unfolding word_at
+word-behind b s k =
+    let byte : (j i n : ℕ) → j ≡ i → WORD_BYTES * s + i ≡ n → get_or (drop (WORD_BYTES * s) b) j 0 ≡ get_or b n 0
+    = λ j i n e l. ap (λ j. get_or (drop (WORD_BYTES * s) b) j 0) e ∙ get_or-drop (WORD_BYTES * s) b i 0 ∙ ap (λ n. get_or b n 0) l in
+    omega (
+      arith,
+      byte (WORD_BYTES * k) _ (WORD_BYTES * (s + k)) refl (omega arith),
+      byte (WORD_BYTES * k + 1) _ (WORD_BYTES * (s + k) + 1) refl (omega arith),
+      byte (WORD_BYTES * k + 2) _ (WORD_BYTES * (s + k) + 2) refl (omega arith),
+      byte (WORD_BYTES * k + 3) _ (WORD_BYTES * (s + k) + 3) refl (omega arith),
+    )
+
+pub word-front : (b : List ℕ) (s k : ℕ) (ws : List (List ℕ)) → WordsFrom b s ws → word_at (concat ws) k ≡ word_at b (s + k)
+word-front b s k ws W = ap (λ l. word_at l k) W.0 ∙ word-behind b s k
+
+-- the words of a query at the front, and those behind it
+pub words_behind : (b : List ℕ) (s n e : ℕ) (ws rest : List (List ℕ)) → WordsFrom b s ws → WordsFrom (concat ws) n rest → s + n ≡ e → WordsFrom b e rest
+words_behind b s n e ws rest W R same =
+    let joined : drop (WORD_BYTES * n) (concat ws) ≡ drop (WORD_BYTES * e) b
+    = ap (drop (WORD_BYTES * n)) W.0 ∙ drop-drop (WORD_BYTES * n) (WORD_BYTES * s) b ∙ (let place : WORD_BYTES * s + WORD_BYTES * n ≡ WORD_BYTES * e = omega (arith, same) in ap (λ k. drop k b) place) in
+    (R.0 ∙ joined, ap length (sym joined) ∙ R.1)
+
 -- what its bytes are worth
 value_of : (w : List ℕ) → from_le_bytes w32 w ≡ word_at w 0
 unfolding word_at
@@ -62,11 +105,6 @@ last-chunk n zero xs = let none : 0 * n ≡ 0 = omega arith in rw none refl
 last-chunk n (suc k) xs =
     let more : suc k * n ≡ n + k * n = omega arith in
     ap (λ l. take n xs ∷ l) (last-chunk n k (drop n xs)) ∙ rw (more, drop-drop) refl
-
--- word k of some that are read from the words which make up the bytes
-pub read_from : (b : List ℕ) (ws : List (List ℕ)) (read : List ℕ) (n at : ℕ) → InWords b ws → ((k : ℕ) → k < n → get_or read k 0 ≡ word_at (concat ws) (at + k))
-    → (k i : ℕ) → k < n → at + k ≡ i → get_or read k 0 ≡ word_at b i
-read_from b ws read n at cut words k i h e = words k h ∙ ap (λ l. word_at l (at + k)) cut.0 ∙ ap (word_at b) e
 
 -- what the definition says of no clause, and of one more
 pub no_clause : (bytes : List ℕ) (at : ℕ) → clauses_at bytes at 0 ≡ []
@@ -117,3 +155,17 @@ clauses_of ws pairs i n cut room e =
 
 pub rect-is : (a b c d a' b' c' d' : ℕ) → a ≡ a' → b ≡ b' → c ≡ c' → d ≡ d' → rect_of a b c d ≡ rect_of a' b' c' d'
 rect-is a b c d a' b' c' d' p q r s = cc
+
+-- the reference and the clauses of a query at the front
+pub rect-front : (b : List ℕ) (s : ℕ) (ws : List (List ℕ)) → WordsFrom b s ws → rect_at (concat ws) 0 ≡ rect_at b s
+rect-front b s ws W =
+    let zeroth : s + 0 ≡ s = omega arith in
+    rect-is _ _ _ _ _ _ _ _ (word-front b s 0 ws W ∙ ap (word_at b) zeroth) (word-front b s 1 ws W) (word-front b s 2 ws W) (word-front b s 3 ws W)
+
+pub clauses-front : (b : List ℕ) (s at n : ℕ) (ws : List (List ℕ)) → WordsFrom b s ws → clauses_at (concat ws) at n ≡ clauses_at b (s + at) n
+clauses-front b s at zero ws W = no_clause (concat ws) at ∙ sym (no_clause b (s + at))
+clauses-front b s at (suc n) ws W =
+    let place : (j i : ℕ) → s + j ≡ i → word_at (concat ws) j ≡ word_at b i = λ j i e. word-front b s j ws W ∙ ap (word_at b) e in
+    let low = place (at + CLAUSE_WORDS * n) (s + at + CLAUSE_WORDS * n) (omega arith) in
+    let high = place (at + CLAUSE_WORDS * n + 1) (s + at + CLAUSE_WORDS * n + 1) (omega arith) in
+    last-clause (concat ws) at n ∙ rw (clauses-front b s at n ws W, low, high) (sym (last-clause b (s + at) n))

@@ -1,10 +1,10 @@
 -- What the functions over a job's bytes are held to, item by item.
-use Rattle.std.specs.Prelude.{ℕ, zero, suc, ◌+◌, ◌*◌, ◌≤◌, ◌≡◌, List, [], ◌++◌, length, get_or}
+use Rattle.std.specs.Prelude.{ℕ, zero, suc, ◌+◌, ◌*◌, ◌≤◌, ◌≡◌, List, [], ◌++◌, length, drop, get_or}
 use Rattle.std.specs.List.{concat}
 use Rattle.pages.specs.Calls.{empty_words}
 use Rattle.placing.specs.Calls.{place_call}
 use Rattle.query.specs.Calls.{query_call}
-use Rattle.job.specs.Sizes.{WORD_BYTES, WORD_VALUES, LINE_BYTES}
+use Rattle.job.specs.Sizes.{WORD_BYTES, WORD_VALUES, QUERY_HEAD, CLAUSE_COUNT_AT, CLAUSE_WORDS, LINE_BYTES}
 use Rattle.job.specs.Job.{Query}
 use Rattle.job.specs.Output.{piece_line, query_line, answer_of}
 use Rattle.job.specs.Words.{word_at, piece_count, piece_at, query_start, query_at}
@@ -12,6 +12,14 @@ use Rattle.job.specs.Words.{word_at, piece_count, piece_at, query_start, query_a
 -- the bytes are those of the words, one behind the other
 abbrev pub InWords : List ℕ → List (List ℕ) → Type 0
 InWords bytes words = (concat words ≡ bytes) × (length bytes ≡ WORD_BYTES * length words)
+
+-- the words of the bytes from a word on
+abbrev pub WordsFrom : List ℕ → ℕ → List (List ℕ) → Type 0
+WordsFrom bytes at words = InWords (drop (WORD_BYTES * at) bytes) words
+
+-- how many words the query at the front has
+abbrev pub query_size : List ℕ → ℕ
+query_size b = QUERY_HEAD + CLAUSE_WORDS * word_at b CLAUSE_COUNT_AT
 
 -- the clause of two words, each as its bytes
 abbrev pub clause_in : List (List ℕ) → ℕ

@@ -5,20 +5,18 @@ mod lines;
 mod queries;
 mod words;
 
-ghost use Rattle.std.specs.Prelude.{◌≡◌, ◌+◌, ◌≤◌, ◌<◌, true, length, MatchOption, IfSome, is_some};
-ghost use Rattle.std.specs.List.{concat};
+ghost use Rattle.std.specs.Prelude.{◌≡◌, ◌+◌, ◌<◌, true, length, IfSome, is_some};
 ghost use Rattle.pages.specs.Sizes.{TABLE_WORDS};
 ghost use Rattle.pages.specs.Calls.{empty_words};
-ghost use Rattle.job.specs.Sizes.{JOB_BYTES};
 ghost use Rattle.job.specs.Words.{piece_count, piece_at, query_count, query_start, well_formed};
-ghost use Rattle.job.specs.Steps.{InWords, HasRoom, Gathers, table_at, piece_line_at};
+ghost use Rattle.job.specs.Steps.{InWords, WordsFrom, HasRoom, Gathers, table_at, piece_line_at};
 
 use history::CALL_WORDS;
 pub use lines::{LINE_BYTES, Lines};
 use pages::Piece;
 pub use queries::{Queries, Query};
 use relations::CLAUSES;
-use words::{Word, word_at, words_at, words_of};
+use words::{Word, next_query, word_at, words_at, words_behind, words_of};
 
 // The largest job.
 pub const JOB_BYTES: usize = 65_536;
@@ -28,44 +26,27 @@ const WORD_BYTES: usize = 4;
 // A job is made of whole words, and so is the largest.
 const _: () = prove!(JOB_BYTES % WORD_BYTES == 0);
 
-// The words of a query before its clauses, and the place of the clause count among them.
+// The words of a query before its clauses.
 const QUERY_HEAD: usize = 5;
-
-const CLAUSE_COUNT_AT: usize = 4;
 
 const CLAUSE_WORDS: usize = 2;
 
 // One clause more than a query may have: enough of them to be refused.
 const CLAUSES_READ: usize = CLAUSES + 1;
 
-/// A well-formed job: its bytes, the words that they make up, how many pieces and queries it has, and the word at which its queries begin.
+/// A well-formed job: its bytes, the words that they make up, how many pieces and queries it has, and the words of its queries.
 #[derive(Clone, Copy)]
 pub struct Job<'a> {
     pub bytes: &'a [u8],
     words: &'a [Word],
     pub pieces: u32,
     pub queries: u32,
-    start: usize,
+    first: &'a [Word],
     pub ghost cut: { InWords bytes.now words.now },
     pub ghost whole: { well_formed bytes.now ≡ true },
     pub ghost pieces_are: { pieces ≡ piece_count bytes.now },
     pub ghost queries_are: { queries ≡ query_count bytes.now },
-    pub ghost start_is: { start ≡ query_start bytes.now 0 },
-}
-
-// The word behind the last query, if the words reach far enough to read each query's count.
-#[tactic(auto, using(crate::proofs::Places::next_place, crate::proofs::Places::past_end))]
-fn end_of_queries(words: &[Word], start: usize, queries: u32) -> Option<usize>
-    requires { (length words.now ≤ JOB_BYTES) × (start ≡ query_start (concat words.now) 0) × (start ≤ length words.now) }
-    ensures { MatchOption result (length words.now < query_start (concat words.now) queries)
-        (λ end. end ≡ query_start (concat words.now) queries) }
-{
-    let mut at = start;
-    for _ in 0..queries {
-        let clauses = word_at(words, at + CLAUSE_COUNT_AT)?;
-        at += QUERY_HEAD + CLAUSE_WORDS * clauses as usize;
-    }
-    Some(at)
+    pub ghost begins: { WordsFrom bytes.now (query_start bytes.now 0) first.now },
 }
 
 impl<'a> Job<'a> {
@@ -82,9 +63,15 @@ impl<'a> Job<'a> {
         let pieces = word_at(words, 0)?;
         let counted_at = 1 + CALL_WORDS * pieces as usize;
         let queries = word_at(words, counted_at)?;
-        let start = counted_at + 1;
-        let end = end_of_queries(words, start, queries)?;
-        if words.len() != end {
+        let first = words_behind(words, counted_at + 1)?;
+        let mut left = first;
+        for _ in 0..queries {
+            let Some((_, _, behind)) = next_query(left) else {
+                return None;
+            };
+            left = behind;
+        }
+        if !left.is_empty() {
             return None;
         }
         Some(Job {
@@ -92,7 +79,7 @@ impl<'a> Job<'a> {
             words,
             pieces,
             queries,
-            start,
+            first,
         })
     }
 

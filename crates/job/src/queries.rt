@@ -4,10 +4,10 @@ ghost use Rattle.std.specs.Iterator.{at_most};
 ghost use Rattle.pages.specs.Sizes.{PIECES};
 ghost use Rattle.query.specs.Calls.{answer_of, query_sound};
 ghost use Rattle.job.specs.Words.{query_start, query_at};
-ghost use Rattle.job.specs.Steps.{clause_in, HasRoom, Gathers, full_table, query_line_at, answer_after};
+ghost use Rattle.job.specs.Steps.{WordsFrom, clause_in, HasRoom, Gathers, full_table, query_line_at, answer_after};
 
-use crate::words::{Word, clauses_at, first_clauses, words_at};
-use crate::{CLAUSE_WORDS, Job, Lines, QUERY_HEAD};
+use crate::words::{Word, first_clauses, next_query};
+use crate::{CLAUSE_WORDS, Job, Lines};
 use pages::Rect;
 use query::Found;
 use refusals::Refusal;
@@ -31,9 +31,9 @@ pub struct Query<'a> {
 pub struct Queries<'a> {
     pub job: Job<'a>,
     pub positions: Range<u32>,
-    start: usize,
+    rest: &'a [Word],
     pub ghost listed: { (positions.start ≤ positions.end) × (positions.end ≡ job.queries) },
-    pub ghost begins: { start ≡ query_start job.bytes.now positions.start },
+    pub ghost begins: { WordsFrom job.bytes.now (query_start job.bytes.now positions.start) rest.now },
 }
 
 impl<'a> Job<'a> {
@@ -44,7 +44,7 @@ impl<'a> Job<'a> {
         Queries {
             job: *self,
             positions: 0..self.queries,
-            start: self.start,
+            rest: self.first,
         }
     }
 }
@@ -60,16 +60,14 @@ impl<'a> Iterator for Queries<'a> {
 
     fn next(&mut self) -> Option<Query<'a>> {
         let position = self.positions.next()?;
-        let [x1, y1, x2, y2, clauses] = words_at::<QUERY_HEAD>(self.job.words, self.start);
-        let first = self.start + QUERY_HEAD;
-        let count = clauses as usize;
+        let (reference, clauses, rest) = next_query(self.rest)?;
         let query = Query {
             job: self.job,
             position,
-            reference: Rect { x1, y1, x2, y2 },
-            clauses: clauses_at(self.job.words, first, count),
+            reference,
+            clauses,
         };
-        self.start = first + CLAUSE_WORDS * count;
+        self.rest = rest;
         Some(query)
     }
 }

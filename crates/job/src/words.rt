@@ -1,12 +1,13 @@
 // Reading a job's little-endian words.
-ghost use Rattle.std.specs.Prelude.{ℕ, ◌≡◌, ◌+◌, ◌*◌, ◌%◌, ◌≤◌, ◌<◌, length, get_or, map, take, MatchOption};
+ghost use Rattle.std.specs.Prelude.{ℕ, ◌≡◌, ◌+◌, ◌*◌, ◌%◌, ◌≤◌, ◌<◌, length, get_or, map, take, drop, MatchOption};
 ghost use Rattle.std.specs.List.{concat};
-ghost use Rattle.job.specs.Sizes.{WORD_BYTES, CLAUSE_WORDS};
-ghost use Rattle.job.specs.Words.{word_at, clauses_at};
-ghost use Rattle.job.specs.Steps.{InWords, clause_in};
+ghost use Rattle.job.specs.Sizes.{WORD_BYTES, QUERY_HEAD, CLAUSE_COUNT_AT, CLAUSE_WORDS};
+ghost use Rattle.job.specs.Words.{word_at, clauses_at, rect_at};
+ghost use Rattle.job.specs.Steps.{InWords, query_size, clause_in};
 
-use crate::{CLAUSE_WORDS, CLAUSES_READ, WORD_BYTES};
+use crate::{CLAUSE_WORDS, CLAUSES_READ, QUERY_HEAD, WORD_BYTES};
 use arrayvec::ArrayVec;
+use pages::Rect;
 use std::array;
 
 // A word of 32 bits, its lowest byte first.
@@ -44,6 +45,37 @@ pub(crate) fn clauses_at(words: &[Word], i: usize, count: usize) -> &[[Word; CLA
 {
     let (clauses, _) = words[i..i + CLAUSE_WORDS * count].as_chunks();
     clauses
+}
+
+// The words behind the first n.
+#[tactic(auto, using(crate::proofs::Reading::words_from))]
+pub(crate) fn words_behind(words: &[Word], n: usize) -> Option<&[Word]>
+    ensures { MatchOption result (length words.now < n)
+        (λ rest. (n ≤ length words.now) × InWords (drop (WORD_BYTES * n) (concat words.now)) rest.now) }
+{
+    let (_, rest) = words.split_at_checked(n)?;
+    Some(rest)
+}
+
+// The query at the front, its reference and the words of its clauses, and the words behind it.
+pub(crate) fn next_query(words: &[Word]) -> Option<(Rect, &[[Word; CLAUSE_WORDS]], &[Word])>
+    ensures { MatchOption result (length words.now < query_size (concat words.now))
+        (λ query. (query_size (concat words.now) ≤ length words.now)
+        × (query.0 ≡ rect_at (concat words.now) 0)
+        × (map clause_in query.1.now ≡ clauses_at (concat words.now) QUERY_HEAD (word_at (concat words.now) CLAUSE_COUNT_AT))
+        × InWords (drop (WORD_BYTES * query_size (concat words.now)) (concat words.now)) query.2.now) }
+{
+    if words.len() < QUERY_HEAD {
+        return None;
+    }
+    let [x1, y1, x2, y2, clauses] = words_at::<QUERY_HEAD>(words, 0);
+    let count = clauses as usize;
+    let rest = words_behind(words, QUERY_HEAD + CLAUSE_WORDS * count)?;
+    Some((
+        Rect { x1, y1, x2, y2 },
+        clauses_at(words, QUERY_HEAD, count),
+        rest,
+    ))
 }
 
 // A clause of its low word and its high word.
