@@ -6,11 +6,14 @@ use Rattle.job.proofs.Places.{exact, count_is, first_words, next_words, still_fi
 use Rattle.job.proofs.Job.read.Goals as goal
 
 -- what is known behind the last query
-behind : (b : List ℕ) (n m : ℕ) (left : List (List ℕ)) → n ≡ m → WordsFrom b (query_start b n) left × (4 * query_start b n ≤ length b) → WordsFrom b (query_start b m) left × (4 * query_start b m ≤ length b)
+behind : (b : List ℕ) (n m : ℕ) (left : List (List ℕ)) → n ≡ m → WordsFrom b (query_start b n) left × (4 * query_start b n ≤ length b)
+    → WordsFrom b (query_start b m) left × (4 * query_start b m ≤ length b)
 behind b n m left e I = subst (λ k. WordsFrom b (query_start b k) left × (4 * query_start b k ≤ length b)) e I
 
 pub loop-init : goal.loop-init
-loop-init c = first_words c.args.bytes.now c.in_ok-words.words.now c.in_ok-first.first.now c.in_ok-pieces.pieces c.in_ok-words.ensures c.in_ok-pieces.ensures.1 c.in_ok-first.ensures.1 (omega (arith, c.in_ok-first.ensures.0))
+loop-init c =
+    first_words c.args.bytes.now c.in_ok-words.words.now c.in_ok-first.first.now c.in_ok-pieces.pieces c.in_ok-words.ensures c.in_ok-pieces.ensures.1 c.in_ok-first.ensures.1
+    (omega (arith, c.in_ok-first.ensures.0))
 
 pub loop-preserved : goal.loop-preserved
 loop-preserved c =
