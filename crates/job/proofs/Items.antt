@@ -19,7 +19,7 @@ use Rattle.job.specs.Job.{Query}
 use Rattle.job.specs.Output.{piece_line, query_line, room, answer_of}
 use Rattle.job.specs.Words.{word_at, rect_at, clauses_at, piece_count, piece_start, piece_at, query_count, query_start, query_at, well_formed}
 use Rattle.job.specs.Steps.{table_at, full_table, piece_line_at, query_line_at, answer_after}
-use Rattle.job.proofs.Places.{first-start, next_start, ends-before, starts-after}
+use Rattle.job.proofs.Places.{first-start, starts-after}
 use Rattle.job.proofs.Tables.{place_is, query-is, fine-table}
 use Rattle.job.proofs.Asking.{same_line}
 
@@ -36,9 +36,6 @@ module _ (b : List ℕ) (good : well_formed b ≡ true) where
 
   pub piece_within : (i words : ℕ) → i < piece_count b → length b ≡ WORD_BYTES * words → piece_start i + CALL_WORDS ≤ words
   piece_within i words h e = omega (arith, exact, first-start b, starts-after b (query_count b))
-
-  pub query_within : (i at words : ℕ) → i < query_count b → at ≡ query_start b i → length b ≡ WORD_BYTES * words → at + QUERY_HEAD + CLAUSE_WORDS * word_at b (at + CLAUSE_COUNT_AT) ≤ words
-  query_within i at words h e l = rw e (omega (arith, exact, next_start b i, ends-before b i (query_count b) h))
 
 -- a piece placed, from what the place call returned
 module _ (b : List ℕ) (i : ℕ) (t : List ℕ) (number : ℕ) (rect : Rect) (t' : List ℕ) (r : ℕ)

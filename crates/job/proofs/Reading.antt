@@ -80,8 +80,9 @@ word-front b s k ws W = ap (λ l. word_at l k) W.0 ∙ word-behind b s k
 -- the words of a query at the front, and those behind it
 pub words_behind : (b : List ℕ) (s n e : ℕ) (ws rest : List (List ℕ)) → WordsFrom b s ws → WordsFrom (concat ws) n rest → s + n ≡ e → WordsFrom b e rest
 words_behind b s n e ws rest W R same =
+    let place : WORD_BYTES * s + WORD_BYTES * n ≡ WORD_BYTES * e = omega (arith, same) in
     let joined : drop (WORD_BYTES * n) (concat ws) ≡ drop (WORD_BYTES * e) b
-    = ap (drop (WORD_BYTES * n)) W.0 ∙ drop-drop (WORD_BYTES * n) (WORD_BYTES * s) b ∙ (let place : WORD_BYTES * s + WORD_BYTES * n ≡ WORD_BYTES * e = omega (arith, same) in ap (λ k. drop k b) place) in
+    = ap (drop (WORD_BYTES * n)) W.0 ∙ drop-drop (WORD_BYTES * n) (WORD_BYTES * s) b ∙ ap (λ k. drop k b) place in
     (R.0 ∙ joined, ap length (sym joined) ∙ R.1)
 
 -- what its bytes are worth
