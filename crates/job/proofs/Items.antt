@@ -14,7 +14,7 @@ use Rattle.placing.specs.Calls.{place_sound, place_call}
 use Rattle.query.specs.declared.Answer.{Answer}
 use Rattle.query.specs.Calls.{query_sound, query_call}
 use Rattle.history.specs.Replay.{CALL_WORDS}
-use Rattle.job.specs.Sizes.{JOB_BYTES, WORD_BYTES, QUERY_HEAD, CLAUSE_COUNT_AT, CLAUSE_WORDS}
+use Rattle.job.specs.Sizes.{JOB_BYTES, WORD_BYTES, QUERY_HEAD, CLAUSE_COUNT_AT}
 use Rattle.job.specs.Job.{Query}
 use Rattle.job.specs.Output.{piece_line, query_line, room, answer_of}
 use Rattle.job.specs.Words.{word_at, rect_at, clauses_at, piece_count, piece_start, piece_at, query_count, query_start, query_at, well_formed}
