@@ -2,8 +2,9 @@
 use Prim.Native.Nat.{ℕ, zero, suc, ◌+◌, ◌≤◌, ◌<◌}
 use native.Mathlib.Omega.{arith}
 use native.Mathlib.Nat.{le_of_suc-le-suc, not-suc-le-zero}
-use native.Mathlib.Decide.{ℕ_discrete}
+use native.Mathlib.Decide.{ℕ_discrete, dec_lt}
 use mathlib.Core.Path.{◌≡◌, refl, sym, ◌∙◌}
+use mathlib.Core.Logic.{◌≢◌}
 use mathlib.Core.Bool.{Bool, true, false, ◌&&◌, cond, false≢true}
 use mathlib.Core.List.{List, [], ◌∷◌, ◌++◌}
 use lib.ListN.{length, get_or, take, drop, set}
@@ -129,6 +130,13 @@ module _ {A : Type 0} where
   sum-two f (x ∷ xs) i zero d k l = absurd (not-suc-le-zero k)
   sum-two f (x ∷ xs) zero (suc j) d k l = omega (arith, sum-at f xs j d (le_of_suc-le-suc l))
   sum-two f (x ∷ xs) (suc i) (suc j) d k l = omega (arith, sum-two f xs i j d (le_of_suc-le-suc k) (le_of_suc-le-suc l))
+
+  pub sum-apart : (f : A → ℕ) (xs : List A) (i j : ℕ) (d : A) → i ≢ j → i < length xs → j < length xs → f (get_or xs i d) + f (get_or xs j d) ≤ sum f xs
+  sum-apart f xs i j d n a b = go (dec_lt i j)
+    where
+      go : Dec (i < j) → f (get_or xs i d) + f (get_or xs j d) ≤ sum f xs
+      go (yes h) = sum-two f xs i j d h b
+      go (no h) = omega (arith, sum-two f xs j i d (omega arith) a)
 
   pub sum_same : (f g : A → ℕ) (xs : List A) → Every (λ x. f x ≡ g x) xs → sum f xs ≡ sum g xs
   sum_same f g [] h = refl

@@ -15,7 +15,7 @@ use Rattle.pages.specs.Lists.{one, sum, Every}
 use Rattle.pages.specs.Rectangles.{widen, bounds}
 use Rattle.pages.specs.Layout.{Page, page_of, no_entry, no_page, page_at}
 use Rattle.pages.specs.Sound.{child_entries, piece_entries, is}
-use Rattle.pages.proofs.Lists.{every-at, at_every, every_map, every-both, every_append, sum-append, sum-set, sum-at, sum-two, sum_zeros}
+use Rattle.pages.proofs.Lists.{every-at, at_every, every_map, every-both, every_append, sum-append, sum-set, sum-at, sum-apart, sum_zeros}
 use Rattle.pages.proofs.Entries.{Fits, refit, is_none, unnamed, names, leaves, leaf-children, above-children, above-pieces}
 use Rattle.pages.proofs.Below.{one-le, T-one}
 use Rattle.pages.proofs.Bounds.{bounds-last}
@@ -162,13 +162,6 @@ module _ (ps : List Page) (p : ℕ) (e : Entry) (B : Before ps) (pl : p < length
 -- the child at place i of page p
 abbrev pub child : List Page → ℕ → ℕ → ℕ
 child ps p i = (get_or (page_at ps p).entries i no_entry).r
-
-sum-apart : {A : Type 0} (f : A → ℕ) (xs : List A) (i j : ℕ) (d : A) → i ≢ j → i < length xs → j < length xs → f (get_or xs i d) + f (get_or xs j d) ≤ sum f xs
-sum-apart f xs i j d n a b = go (dec_lt i j)
-  where
-    go : Dec (i < j) → f (get_or xs i d) + f (get_or xs j d) ≤ sum f xs
-    go (yes h) = sum-two f xs i j d h b
-    go (no h) = omega (arith, sum-two f xs j i d (omega arith) a)
 
 is-self : (e : Entry) → is e.r e ≡ 1
 is-self e = rw (eq-eqb e.r e.r refl)
