@@ -1,10 +1,11 @@
--- A number is listed exactly when a leaf's entry holds it with an admitted rectangle.
+-- A number is listed exactly when a leaf's entry holds it with an admitted rectangle; there is one such entry at most.
 use Prim.Native.Nat.{ℕ, ◌≤◌, ◌<◌}
 use native.Mathlib.Omega.{arith}
-use mathlib.Core.Path.{◌≡◌, refl, sym, ap, ◌∙◌}
+use native.Mathlib.Decide.{ℕ_discrete}
+use mathlib.Core.Path.{◌≡◌, refl, sym, ap, ap₂, ◌∙◌}
 use mathlib.Core.Logic.{◌↔◌}
 use mathlib.Core.Bool.{Bool, true, false, cond}
-use mathlib.Core.List.{[]}
+use mathlib.Core.List.{List, []}
 use lib.ListN.{length, get_or}
 use lib.Dec.{ltb, eqb, ltb→lt, eqb→eq}
 use borrow.Author.Tests.{eqb-true, lt-ltb, eq-eqb}
@@ -14,7 +15,7 @@ use Rattle.pages.specs.Sizes.{PIECES}
 use Rattle.pages.specs.Lists.{one, sum}
 use Rattle.pages.specs.Layout.{Page, Table, no_entry, no_page, page}
 use Rattle.pages.specs.Sound.{leaf, piece_entries, is}
-use Rattle.pages.proofs.Lists.{every-at, sum-at}
+use Rattle.pages.proofs.Lists.{every-at, sum-at, sum-apart}
 use Rattle.pages.proofs.Facts.{Facts}
 use Rattle.pages.proofs.Entries.{leaf-pieces}
 use Rattle.pages.proofs.Below.{T-one}
@@ -70,6 +71,56 @@ module _ (t : Table) (admit : Rect → Bool) (c : ℕ) where
         sum-at (λ g. sum (λ x. cond (admit x.rect) (is c x) 0) (piece_entries g)) t.pages m.leaf no_page m.inside,
       )
 
+-- where a sum is at most 1, one place has a weight
+one_place : {A : Type 0} (f : A → ℕ) (xs : List A) (d : A) → sum f xs ≤ 1 → (i j : ℕ) → i < length xs → j < length xs → 1 ≤ f (get_or xs i d) → 1 ≤ f (get_or xs j d) → i ≡ j
+one_place f xs d h i j k l a b = go (ℕ_discrete i j)
+  where
+    go : Dec (i ≡ j) → i ≡ j
+    go (yes e) = e
+    go (no n) = absurd (omega (arith, h, a, b, sum-apart f xs i j d n k l))
+
+-- the numbers of a sound table are small and distinct, so a number has one rectangle
+module _ (t : Table) (F : Facts t) (c : ℕ) where
+  piece-small : (r : Rect) → PieceAt t c r → c < PIECES
+  piece-small r m =
+      let k = every-at (λ e. e.r < PIECES) (page t m.leaf).entries no_entry (rw (leaf-pieces (page t m.leaf) m.level) at (F.numbers m.leaf m.inside)) m.place m.entry in
+      omega (arith, k, m.number)
+
+  -- how often a leaf's entries have the number
+  abbrev held : Page → ℕ
+  held g = sum (is c) (piece_entries g)
+
+  module _ (r : Rect) (m : PieceAt t c r) where
+    -- the entries of its leaf
+    abbrev beside : List Entry
+    beside = (page t m.leaf).entries
+
+    in-leaf : held (page t m.leaf) ≡ sum (is c) beside
+    in-leaf = ap (sum (is c)) (leaf-pieces (page t m.leaf) m.level)
+
+    is-it : is c (get_or beside m.place no_entry) ≡ 1
+    is-it = ap one (eq-eqb (get_or beside m.place no_entry).r c m.number)
+
+    leaf-holds : 1 ≤ held (page t m.leaf)
+    leaf-holds = omega (arith, is-it, in-leaf, sum-at (is c) beside m.place no_entry m.entry)
+
+    once-there : sum (is c) beside ≤ 1
+    once-there = omega (arith, in-leaf, sum-at held t.pages m.leaf no_page m.inside, F.distinct c (piece-small r m))
+
+  pub one_rect : (r s : Rect) → PieceAt t c r → PieceAt t c s → r ≡ s
+  one_rect r s m n = sym m.rectangle ∙ (ap₂ (λ p i. (get_or (page t p).entries i no_entry).rect) same_leaf same_place ∙ n.rectangle)
+    where
+      same_leaf : m.leaf ≡ n.leaf
+      same_leaf = one_place held t.pages no_page (F.distinct c (piece-small r m)) m.leaf n.leaf m.inside n.inside (leaf-holds r m) (leaf-holds s n)
+
+      same_place : m.place ≡ n.place
+      same_place = go m.leaf m.place same_leaf m.entry (is-it r m)
+        where
+          go : (p i : ℕ) → p ≡ n.leaf → i < length (page t p).entries → is c (get_or (page t p).entries i no_entry) ≡ 1 → i ≡ n.place
+          go p i e l h =
+              let w : is c (get_or (beside s n) i no_entry) ≡ 1 = rw e at h in
+              one_place (is c) (beside s n) no_entry (once-there s n) i n.place (rw e at l) n.entry (omega (arith, w)) (omega (arith, is-it s n))
+
 module _ (t : Table) (F : Facts t) (admit : Rect → Bool) where
   listed_below : (n c : ℕ) → In c (rising n (λ x. ltb 0 (admitted_as admit t x))) → 1 ≤ admitted_as admit t c
   listed_below n c m =
@@ -83,21 +134,16 @@ module _ (t : Table) (F : Facts t) (admit : Rect → Bool) where
       let p : ℕ → Bool = λ x. ltb 0 (admitted_as admit t x) in
       times-in c (rising n p) (omega (arith, rising-times p n c l, ap one (lt-ltb 0 (admitted_as admit t c) h)))
 
-  piece-small : (c : ℕ) (r : Rect) → PieceAt t c r → c < PIECES
-  piece-small c r m =
-      let k = every-at (λ e. e.r < PIECES) (page t m.leaf).entries no_entry (rw (leaf-pieces (page t m.leaf) m.level) at (F.numbers m.leaf m.inside)) m.place m.entry in
-      omega (arith, k, m.number)
-
   -- what is admitted is a piece number
   pub admitted-small : (c : ℕ) → 1 ≤ admitted_as admit t c → c < PIECES
   admitted-small c h =
       let m = piece-found t admit c h in
-      piece-small c m.0 m.1
+      piece-small t F c m.0 m.1
 
   pub listed-exactly : (c : ℕ) → In c (listing admit t) ↔ ((r : Rect) × PieceAt t c r × (admit r ≡ true))
   unfolding listing
   listed-exactly c =
-      (λ m. piece-found t admit c (listed_below PIECES c m), λ m. below-listed PIECES c (piece-small c m.0 m.1) (piece-weighs t admit c m.0 m.1 m.2))
+      (λ m. piece-found t admit c (listed_below PIECES c m), λ m. below-listed PIECES c (piece-small t F c m.0 m.1) (piece-weighs t admit c m.0 m.1 m.2))
 
   pub listed-rising : (i j : ℕ) → i < j → j < length (listing admit t) → get_or (listing admit t) i 0 < get_or (listing admit t) j 0
   unfolding listing
