@@ -15,6 +15,7 @@ use Rattle.pages.specs.Sound.{stored}
 use Rattle.placing.specs.Calls.{place_refusal, place_call}
 use Rattle.placing.proofs.Called.{first, refusal-open, answered, sound-open, call-accepted}
 use Rattle.history.specs.Book.{Slot, Call, Book, blank, stands, is_blank, writes, feed, fed}
+use Rattle.history.specs.History.{placed}
 use Rattle.history.specs.Replay.{refusals_from}
 use Rattle.history.proofs.Reached.{Reached, stored-blank, refusal_is, call-sound, reached-call}
 use Rattle.turning.specs.Turn.{turn_calls, turned_rect, turned_call, turned_calls}
@@ -48,8 +49,14 @@ module _ (w : List ℕ) (b : Book) (R : Reached w b) (c : Call) where
   accepted-valid : (place_call w c.number c.rect).0 ≡ ACCEPTED → T (valid c.rect)
   accepted-valid e = (call-accepted w c.number c.rect (sym returned ∙ e)).0
 
+-- words that calls reach, and words that the turned calls reach
+pub record Turned (w w' : List ℕ) (b b' : Book) : Type 0 where
+  pub reached : Reached w b
+  pub turned : Reached w' b'
+  pub same : TurnedBook b b'
+
 -- one call and the turned one
-module _ (w w' : List ℕ) (b b' : Book) (R : Reached w b) (R' : Reached w' b') (same : TurnedBook b b') (c : Call) where
+module _ {w w' : List ℕ} {b b' : Book} (R : Turned w w' b b') (c : Call) where
   abbrev n : ℕ
   n = c.number
 
@@ -57,7 +64,7 @@ module _ (w w' : List ℕ) (b b' : Book) (R : Reached w b) (R' : Reached w' b') 
   refusal-same = refusal-open w' n (turned_rect c.rect) ∙ (go (leb PIECES n) refl ∙ sym (refusal-open w n c.rect))
     where
       free : n < PIECES → eqb (stored (table_in w') n) 0 ≡ eqb (stored (table_in w) n) 0
-      free l = stored-blank w' b' R' (turned_call c) l ∙ (ap is_blank (same n) ∙ (blank-turned (b n) ∙ sym (stored-blank w b R c l)))
+      free l = stored-blank w' b' R.turned (turned_call c) l ∙ (ap is_blank (R.same n) ∙ (blank-turned (b n) ∙ sym (stored-blank w b R.reached c l)))
 
       go : (h : Bool) → leb PIECES n ≡ h
           → first (valid (turned_rect c.rect)) h (eqb (stored (table_in w') n) 0) ≡ first (valid c.rect) h (eqb (stored (table_in w) n) 0)
@@ -65,10 +72,10 @@ module _ (w w' : List ℕ) (b b' : Book) (R : Reached w b) (R' : Reached w' b') 
       go false e = ap₂ (λ v f. first v false f) (returned-valid c.rect) (free (leb-false PIECES n e))
 
   return-same : (place_call w' n (turned_rect c.rect)).0 ≡ (place_call w n c.rect).0
-  return-same = returned w' b' R' (turned_call c) ∙ (refusal-same ∙ sym (returned w b R c))
+  return-same = returned w' b' R.turned (turned_call c) ∙ (refusal-same ∙ sym (returned w b R.reached c))
 
   writes-same : writes b' (turned_call c) ≡ writes b c
-  writes-same = sym (refusal_is w' b' R' (turned_call c)) ∙ (ap (λ x. eqb x ACCEPTED) refusal-same ∙ refusal_is w b R c)
+  writes-same = sym (refusal_is w' b' R.turned (turned_call c)) ∙ (ap (λ x. eqb x ACCEPTED) refusal-same ∙ refusal_is w b R.reached c)
 
   feed-turned : TurnedBook (feed b c) (feed b' (turned_call c))
   unfolding feed turn_slot
@@ -76,27 +83,21 @@ module _ (w w' : List ℕ) (b b' : Book) (R : Reached w b) (R' : Reached w' b') 
     where
       go : (x : Bool) → cond x (stands (turned_rect c.rect)) (b' m) ≡ turn_slot (cond x (stands c.rect) (b m))
       go true = refl
-      go false = same m
+      go false = R.same m
+
+  after-call : Turned (place_call w n c.rect).1 (place_call w' n (turned_rect c.rect)).1 (feed b c) (feed b' (turned_call c))
+  after-call = record { reached = reached-call w b R.reached c; turned = reached-call w' b' R.turned (turned_call c); same = feed-turned }
 
 -- lists of calls
-abbrev leaves : List ℕ → Call → List ℕ
-leaves w c = (place_call w c.number c.rect).1
-
-pub refusals-same : (cs : List Call) (w w' : List ℕ) (b b' : Book) → Reached w b → Reached w' b' → TurnedBook b b'
-    → refusals_from w' (turned_calls cs) ≡ refusals_from w cs
+pub refusals-same : (cs : List Call) {w w' : List ℕ} {b b' : Book} → Turned w w' b b' → refusals_from w' (turned_calls cs) ≡ refusals_from w cs
 unfolding refusals_from
-refusals-same [] w w' b b' R R' same = refl
-refusals-same (c ∷ cs) w w' b b' R R' same =
-    ap₂ ◌∷◌ (return-same w w' b b' R R' same c)
-    (refusals-same cs (leaves w c) (leaves w' (turned_call c)) (feed b c) (feed b' (turned_call c)) (reached-call w b R c) (reached-call w' b' R' (turned_call c))
-    (feed-turned w w' b b' R R' same c))
+refusals-same [] R = refl
+refusals-same (c ∷ cs) R = ap₂ ◌∷◌ (return-same R c) (refusals-same cs (after-call R c))
 
-pub books-turned : (cs : List Call) (w w' : List ℕ) (b b' : Book) → Reached w b → Reached w' b' → TurnedBook b b' → TurnedBook (fed b cs) (fed b' (turned_calls cs))
-unfolding fed
-books-turned [] w w' b b' R R' same = same
-books-turned (c ∷ cs) w w' b b' R R' same =
-    books-turned cs (leaves w c) (leaves w' (turned_call c)) (feed b c) (feed b' (turned_call c)) (reached-call w b R c) (reached-call w' b' R' (turned_call c))
-    (feed-turned w w' b b' R R' same c)
+pub after-calls : (cs : List Call) {w w' : List ℕ} {b b' : Book} → Turned w w' b b' → Turned (placed w cs) (placed w' (turned_calls cs)) (fed b cs) (fed b' (turned_calls cs))
+unfolding placed fed
+after-calls [] R = R
+after-calls (c ∷ cs) R = after-calls cs (after-call R c)
 
 -- of accepted calls, what `turned_rect` returns is the turned rectangle
 pub accepted-calls : (cs : List Call) (w : List ℕ) (b : Book) → Reached w b → Every (λ r. r ≡ ACCEPTED) (refusals_from w cs) → turned_calls cs ≡ turn_calls cs
@@ -104,4 +105,4 @@ unfolding refusals_from
 accepted-calls [] w b R h = refl
 accepted-calls (c ∷ cs) w b R h =
     ap₂ ◌∷◌ (ap (λ r. record { number = c.number; rect = r }) (turned-is c.rect (accepted-valid w b R c h.0)))
-    (accepted-calls cs (leaves w c) (feed b c) (reached-call w b R c) h.1)
+    (accepted-calls cs (place_call w c.number c.rect).1 (feed b c) (reached-call w b R c) h.1)

@@ -1,13 +1,14 @@
 -- Turned clauses: their bits, what they name and admit, their refusal, four turns.
-use Prim.Native.Nat.{ℕ, ◌+◌, ◌*◌, ◌/◌, ◌%◌, ◌^◌, ◌≤◌, ◌<◌}
+use Prim.Native.Nat.{ℕ, ◌+◌, ◌*◌, ◌/◌, ◌%◌, ◌^◌, ◌<◌}
 use native.Mathlib.Omega.{arith}
 use native.Mathlib.Nat.{mod-eq_of_lt}
 use mathlib.Core.Path.{◌≡◌, refl, sym, ap, ap₂, ◌∙◌}
 use mathlib.Core.Bool.{Bool, true, cond, ◌&&◌, ◌||◌}
 use mathlib.Core.List.{List, [], ◌∷◌}
 use lib.ListN.{length-map}
-use lib.Dec.{eqb, leb, ltb}
-use borrow.Author.Tests.{eqb-true, eq-eqb, leb-true, le-leb}
+use lib.Dec.{eqb, ltb}
+use borrow.Author.Tests.{eqb-true, eq-eqb}
+use Rattle.std.proofs.lemmas.Grind.{common_steps}
 use Rattle.relations.specs.Sets.{bit, packed, some_below}
 use Rattle.relations.specs.Axis.{IsCode, turned}
 use Rattle.relations.specs.Relation.{RELATIONS, in_relation}
@@ -92,14 +93,7 @@ turned_zero c e =
 
 pub bad-turned : (c : ℕ) → bad_clause (turn_clause c) ≡ bad_clause c
 unfolding bad_clause
-bad-turned c =
-    ap₂ (λ (a b : Bool). a || b)
-    (same_test (eqb (turn_clause c) 0) (eqb c 0) (λ e. eq-eqb c 0 (turned_zero c (eqb-true (turn_clause c) 0 e))) (λ e. eq-eqb (turn_clause c) 0 (zero-turned c (eqb-true c 0 e))))
-    (same_test (leb (2 ^ RELATIONS) (turn_clause c)) (leb (2 ^ RELATIONS) c) (λ e. le-leb (2 ^ RELATIONS) c (reaches (turn_clause c) c (turn-rest c) (leb-true (2 ^ RELATIONS) (turn_clause c) e)))
-    (λ e. le-leb (2 ^ RELATIONS) (turn_clause c) (reaches c (turn_clause c) (sym (turn-rest c)) (leb-true (2 ^ RELATIONS) c e))))
-  where
-    reaches : (a b : ℕ) → a / 2 ^ RELATIONS ≡ b / 2 ^ RELATIONS → 2 ^ RELATIONS ≤ a → 2 ^ RELATIONS ≤ b
-    reaches a b e l = omega arith
+bad-turned c = grind (arith, common_steps, turn-rest c, zero-turned c, turned_zero c)
 
 some-bad-turned : (clauses : List ℕ) → some_bad (turn_query clauses) ≡ some_bad clauses
 unfolding some_bad

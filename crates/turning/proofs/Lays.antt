@@ -18,13 +18,13 @@ use Rattle.history.specs.History.{table_after}
 use Rattle.history.specs.Demand3.{Asked}
 use Rattle.history.specs.Replay.{refusals_after}
 use Rattle.history.proofs.Book.{book-valid, book-other}
-use Rattle.history.proofs.Reached.{Reached, reached-emptied, reached-after}
+use Rattle.history.proofs.Reached.{reached-emptied}
 use Rattle.history.proofs.Listed.{admits_slot, admitted_standing, out-hits, out-listing, query-lists}
 use Rattle.turning.specs.Turn.{turn_rect, turn_query, turn_calls, turned_calls}
 use Rattle.turning.specs.Lays.{AllAccepted, SameAnswers, TurnedLay, AnsweredAlike, ForSlices}
 use Rattle.turning.proofs.Clauses.{refusal-turned}
 use Rattle.turning.proofs.Rects.{turned-valid, turned-is, rect-turned}
-use Rattle.turning.proofs.Calls.{turn_slot, TurnedBook, refusals-same, books-turned, accepted-calls}
+use Rattle.turning.proofs.Calls.{turn_slot, TurnedBook, Turned, refusals-same, after-calls, accepted-calls}
 
 -- the turned query admits what stands turned exactly when the query admits what stands
 module _ (clauses : List ℕ) (q : Rect) (v : T (valid q)) where
@@ -42,23 +42,21 @@ module _ (clauses : List ℕ) (q : Rect) (v : T (valid q)) where
       (λ n l. ap (admits_slot (turn_query clauses) (turn_rect q)) (same n) ∙ slot-turned (b n) (h n l))
 
 module _ (slice slice' : List ℕ) (l : TABLE_WORDS ≤ length slice) (l' : TABLE_WORDS ≤ length slice') (calls : List Call) where
-  first : Reached (empty_call slice).1 (λ n. blank)
-  first = reached-emptied slice (empty_call slice).1 (empty_call slice).0 l refl
-
-  first' : Reached (empty_call slice').1 (λ n. blank)
-  first' = reached-emptied slice' (empty_call slice').1 (empty_call slice').0 l' refl
-
-  none : TurnedBook (λ n. blank) (λ n. blank)
+  emptied : Turned (empty_call slice).1 (empty_call slice').1 (λ n. blank) (λ n. blank)
   unfolding turn_slot
-  none n = refl
+  emptied = record {
+    reached = reached-emptied slice (empty_call slice).1 (empty_call slice).0 l refl;
+    turned = reached-emptied slice' (empty_call slice').1 (empty_call slice').0 l' refl;
+    same = λ n. refl;
+  }
 
   refused-alike : refusals_after slice' (turned_calls calls) ≡ refusals_after slice calls
   unfolding refusals_after
-  refused-alike = refusals-same calls (empty_call slice).1 (empty_call slice').1 (λ n. blank) (λ n. blank) first first' none
+  refused-alike = refusals-same calls emptied
 
-  stands-turned : TurnedBook (book_after calls) (book_after (turned_calls calls))
-  unfolding book_after
-  stands-turned = books-turned calls (empty_call slice).1 (empty_call slice').1 (λ n. blank) (λ n. blank) first first' none
+  after : Turned (table_after slice calls) (table_after slice' (turned_calls calls)) (book_after calls) (book_after (turned_calls calls))
+  unfolding table_after book_after
+  after = after-calls calls emptied
 
   listed-alike : SameAnswers (table_after slice calls) (table_after slice' (turned_calls calls))
   listed-alike clauses q A answer answer' k k' =
@@ -66,10 +64,10 @@ module _ (slice slice' : List ℕ) (l : TABLE_WORDS ≤ length slice) (l' : TABL
       let w' = table_after slice' (turned_calls calls) in
       let b = book_after calls in
       let b' = book_after (turned_calls calls) in
-      let R = reached-after slice l calls in
-      let R' = reached-after slice' l' (turned_calls calls) in
+      let R = after.reached in
+      let R' = after.turned in
       let A' : Asked (turn_query clauses) (turn_rect q) = record { query = refusal-turned clauses ∙ A.query; rectangle = turned-valid q A.rectangle } in
-      let e = standing-turned clauses q A.rectangle b b' stands-turned (λ n nl r h. book-valid calls n r nl h) in
+      let e = standing-turned clauses q A.rectangle b b' after.same (λ n nl r h. book-valid calls n r nl h) in
       record {
         accepted = (query-lists w b R clauses q A answer k (book-other calls)).accepted;
         turned-accepted = (query-lists w' b' R' (turn_query clauses) (turn_rect q) A' answer' k' (book-other (turned_calls calls))).accepted;
@@ -81,7 +79,7 @@ module _ (slice slice' : List ℕ) (l : TABLE_WORDS ≤ length slice) (l' : TABL
 
   as-accepted : AllAccepted slice calls → turned_calls calls ≡ turn_calls calls
   unfolding refusals_after
-  as-accepted ok = accepted-calls calls (empty_call slice).1 (λ n. blank) first ok
+  as-accepted ok = accepted-calls calls (empty_call slice).1 (λ n. blank) emptied.reached ok
 
   turned-lay : AllAccepted slice calls → TurnedLay slice slice' calls
   turned-lay ok =

@@ -1,60 +1,30 @@
 -- Turned rectangles: validity, four turns, and the configuration of two.
 use Prim.Native.Nat.{ℕ, ◌-◌, ◌≤◌}
 use native.Mathlib.Omega.{arith}
-use mathlib.Core.Path.{◌≡◌, refl, sym, ap₂, ◌∙◌}
-use mathlib.Core.Bool.{Bool, true, false, cond}
-use mathlib.Core.List.{List, [], ◌∷◌}
-use lib.Dec.{T, leb, ltb, lt→ltb, le→leb}
+use mathlib.Core.Path.{◌≡◌, refl, sym, ap₂, ◌∙◌, subst}
+use mathlib.Core.Bool.{true, false}
+use mathlib.Core.List.{List}
+use lib.Dec.{T}
+use Rattle.std.proofs.lemmas.Grind.{common_steps}
 use Rattle.relations.specs.Axis.{turned}
 use Rattle.relations.specs.Query.{admits}
-use Rattle.relations.proofs.Tests.{same_test}
 use Rattle.relations.proofs.Sides.{is_code}
 use Rattle.relations.proofs.Turned.{code-round}
 use Rattle.pages.specs.declared.Rect.{Rect}
 use Rattle.pages.specs.Sizes.{EDGE}
 use Rattle.pages.specs.Rectangles.{rect_of, valid}
-use Rattle.pages.proofs.Lists.{true-T, T_true, all-of}
-use Rattle.pages.proofs.Valid.{Edges, edges}
+use Rattle.pages.proofs.Lists.{true-T, T_true}
+use Rattle.pages.proofs.Valid.{edges}
 use Rattle.query.specs.Admission.{code_y, code_x, admits_rect}
 use Rattle.turning.specs.Turn.{turn_rect, turn_query, turned_rect}
 use Rattle.turning.proofs.Clauses.{admits-turned}
 
-valid-of : (r : Rect) → Edges r → T (valid r)
-unfolding valid
-valid-of r e =
-    all-of (ltb r.x1 r.x2 ∷ ltb r.y1 r.y2 ∷ leb r.x1 EDGE ∷ leb r.y1 EDGE ∷ leb r.x2 EDGE ∷ leb r.y2 EDGE ∷ [])
-    (lt→ltb _ _ e.on-x, (lt→ltb _ _ e.on-y, (le→leb _ _ e.x-start, (le→leb _ _ e.y-start, (le→leb _ _ e.x-end, (le→leb _ _ e.y-end, tt))))))
-
-edges-turned : (r : Rect) → Edges r → Edges (turn_rect r)
-unfolding turn_rect
-edges-turned r e = record {
-  on-x = e.on-y;
-  on-y = omega (arith, e.on-x, e.x-end);
-  x-start = e.y-start;
-  y-start = omega arith;
-  x-end = e.y-end;
-  y-end = omega arith;
-}
-
-turned-edges : (r : Rect) → r.x2 ≤ EDGE → Edges (turn_rect r) → Edges r
-unfolding turn_rect
-turned-edges r l e = record {
-  on-x = omega (arith, e.on-y);
-  on-y = e.on-x;
-  x-start = omega (arith, l, e.on-y);
-  y-start = e.x-start;
-  x-end = l;
-  y-end = e.x-end;
-}
+pub valid_same : (r : Rect) → r.x2 ≤ EDGE → valid (turn_rect r) ≡ valid r
+unfolding valid turn_rect
+valid_same r l = grind (arith, common_steps)
 
 pub turned-valid : (r : Rect) → T (valid r) → T (valid (turn_rect r))
-turned-valid r v = valid-of (turn_rect r) (edges-turned r (edges r v))
-
-pub valid_same : (r : Rect) → r.x2 ≤ EDGE → valid (turn_rect r) ≡ valid r
-valid_same r l =
-    same_test (valid (turn_rect r)) (valid r)
-    (λ e. T_true (valid r) (valid-of r (turned-edges r l (edges (turn_rect r) (true-T (valid (turn_rect r)) e)))))
-    (λ e. T_true (valid (turn_rect r)) (turned-valid r (true-T (valid r) e)))
+turned-valid r v = subst T (sym (valid_same r (edges r v).x-end)) v
 
 -- what `turned_rect` returns
 pub turned-is : (r : Rect) → T (valid r) → turned_rect r ≡ turn_rect r
@@ -62,15 +32,8 @@ unfolding turned_rect
 turned-is r v = rw (T_true (valid r) v)
 
 pub returned-valid : (r : Rect) → valid (turned_rect r) ≡ valid r
-unfolding turned_rect
-returned-valid r = go (valid r) refl
-  where
-    none : valid (rect_of 0 0 0 0) ≡ false
-    none = refl
-
-    go : (b : Bool) → valid r ≡ b → valid (cond b (turn_rect r) (rect_of 0 0 0 0)) ≡ valid r
-    go true e = valid_same r (edges r (true-T (valid r) e)).x-end
-    go false e = none ∙ sym e
+unfolding turned_rect turn_rect valid
+returned-valid r = grind (arith, common_steps)
 
 pub four-rect : (r : Rect) → T (valid r) → turn_rect (turn_rect (turn_rect (turn_rect r))) ≡ r
 unfolding turn_rect

@@ -24,7 +24,8 @@ pub record Claims : Type 0 where
   pub two-clauses-after : AfterCalls (λ table words. (q : Rect) (c d : ℕ) → Parted table q (c ∷ []) (d ∷ []) words)
   -- and so with any further clauses beside each of the two
   pub more-clauses : OnSoundTables (λ table words. (q : Rect) (c d : ℕ) (cs ds : List ℕ) → Parted table q (c ∷ cs) (d ∷ ds) words)
-  -- a turned rectangle is valid exactly when the rectangle is; and so is, for any numbers, what `turned_rect` returns
+  -- a turned rectangle is valid exactly when the rectangle is (with x2 beyond the cloth, 1,000,000 - x2 is no number); and so is, for any
+  -- numbers, what `turned_rect` returns
   pub rectangle : (r : Rect) → r.x2 ≤ EDGE → valid (turn_rect r) ≡ valid r
   pub returned : (r : Rect) → valid (turned_rect r) ≡ valid r
   -- a turned clause names the turned relations, and is refused exactly when the clause is
