@@ -3,10 +3,9 @@ use Prim.Native.Nat.{ℕ, ◌+◌, ◌-◌, ◌*◌, ◌/◌, ◌%◌, ◌^◌, 
 use native.Mathlib.Omega.{arith}
 use native.Mathlib.Decide.{dec_lt}
 use mathlib.Core.Path.{◌≡◌, ap, ◌∙◌}
-use mathlib.Core.List.{List, ◌++◌}
-use lib.ListN.{take, drop}
+use mathlib.Core.List.{List, [], ◌∷◌}
+use lib.ListN.{get_or}
 use Rattle.std.specs.Int.{to_le_bytes, from_le_bytes, w64}
-use Rattle.std.specs.List.{slice_rotate_right}
 use borrow.Author.Tests.{lt-ltb, le-ltb}
 use Rattle.relations.specs.Sets.{bit}
 use Rattle.relations.specs.Relation.{RELATIONS}
@@ -50,17 +49,13 @@ module _ (c : ℕ) where
           (ap (bit made) e ∙ (joined-high 8 c from_north (8 + m) ∙ (joined-high 8 (c / 2 ^ 32) from_east m ∙ (joined-low 24 (c / 2 ^ 8) beyond m (omega arith)
           ∙ (bit_shifted c 8 m ∙ ap (bit c) f)))))
 
-  -- the bytes with those of the directions rotated: west below the other three
-  rotated : List ℕ → List ℕ
-  rotated bytes = take 1 bytes ++ (slice_rotate_right (take 4 (drop 1 bytes)) 1 ++ drop 4 (drop 1 bytes))
+  -- the bytes with that of west below those of the other three directions
+  abbrev turned : List ℕ → List ℕ
+  turned bytes =
+      get_or bytes 0 0 ∷ get_or bytes 4 0 ∷ get_or bytes 1 0 ∷ get_or bytes 2 0 ∷ get_or bytes 3 0 ∷ get_or bytes 5 0 ∷ get_or bytes 6 0 ∷ get_or bytes 7 0 ∷ []
 
-  from-rotated : c < 2 ^ 64 → from_le_bytes w64 (rotated (to_le_bytes w64 c)) ≡ made
-  unfolding rotated
-  from-rotated l = omega (arith, l)
+  from-turned : c < 2 ^ 64 → from_le_bytes w64 (turned (to_le_bytes w64 c)) ≡ made
+  from-turned l = omega (arith, l)
 
-  pub made_is : (bytes part : List ℕ) (r : ℕ) → c < 2 ^ 64 → bytes ≡ to_le_bytes w64 c → part ≡ slice_rotate_right (take 4 (drop 1 bytes)) 1
-      → r ≡ from_le_bytes w64 (take 1 bytes ++ (part ++ drop 4 (drop 1 bytes))) → r ≡ turn_clause c
-  unfolding rotated
-  made_is bytes part r l b p e =
-      e ∙ (ap (λ ps. from_le_bytes w64 (take 1 bytes ++ (ps ++ drop 4 (drop 1 bytes)))) p
-      ∙ (ap (λ bs. from_le_bytes w64 (rotated bs)) b ∙ (from-rotated l ∙ turn_is made c (omega arith) (λ k l. made-from k (made-bit k l) l))))
+  pub made_is : (bytes : List ℕ) (r : ℕ) → c < 2 ^ 64 → bytes ≡ to_le_bytes w64 c → r ≡ from_le_bytes w64 (turned bytes) → r ≡ turn_clause c
+  made_is bytes r l b e = e ∙ (ap (λ bs. from_le_bytes w64 (turned bs)) b ∙ (from-turned l ∙ turn_is made c (omega arith) (λ k l. made-from k (made-bit k l) l)))

@@ -6,11 +6,6 @@ ghost use Rattle.turning.specs.Turn.{turned_rect, turn_clause};
 
 use pages::{EDGE, Rect};
 
-// Byte 0 of a clause has the relations without a direction; the eight kinds of each direction have a byte, from north on.
-const NORTH: usize = 1;
-
-const WEST: usize = 4;
-
 // The rectangle after the turn; zeros for one that is not valid.
 #[tactic(auto, using(crate::proofs::Rects::answer_refused, crate::proofs::Rects::edges_fit))]
 pub fn turned_rect(r: Rect) -> Rect
@@ -27,12 +22,11 @@ pub fn turned_rect(r: Rect) -> Rect
     }
 }
 
-// The clause that names what the relations of this one become: each direction takes the place of the next, and west that of north.
+// The clause that names what the relations of this one become. A byte has the topological ones, four a direction each, three name none.
 #[tactic(auto, using(crate::proofs::Made::made_is))]
 pub fn turned_clause(clause: u64) -> u64
     ensures { result ≡ turn_clause clause }
 {
-    let mut bytes = clause.to_le_bytes();
-    bytes[NORTH..=WEST].rotate_right(1);
-    u64::from_le_bytes(bytes)
+    let [topological, north, east, south, west, b5, b6, b7] = clause.to_le_bytes();
+    u64::from_le_bytes([topological, west, north, east, south, b5, b6, b7])
 }
