@@ -134,12 +134,6 @@ module _ (t : Table) (F : Facts t) (admit : Rect → Bool) where
       let p : ℕ → Bool = λ x. ltb 0 (admitted_as admit t x) in
       times-in c (rising n p) (omega (arith, rising-times p n c l, ap one (lt-ltb 0 (admitted_as admit t c) h)))
 
-  -- what is admitted is a piece number
-  pub admitted-small : (c : ℕ) → 1 ≤ admitted_as admit t c → c < PIECES
-  admitted-small c h =
-      let m = piece-found t admit c h in
-      piece-small t F c m.0 m.1
-
   pub listed-exactly : (c : ℕ) → In c (listing admit t) ↔ ((r : Rect) × PieceAt t c r × (admit r ≡ true))
   unfolding listing
   listed-exactly c =

@@ -1,5 +1,5 @@
 -- The relations 0 to 39 as sets of configurations (i, j): i the code on y, j the code on x.
-use Rattle.std.specs.Prelude.{Bool, cond, ◌&&◌, List, [], ◌∷◌, map, ℕ, zero, suc, ◌-◌, ◌/◌, ◌%◌, ltb, get_or}
+use Rattle.std.specs.Prelude.{Bool, cond, ◌&&◌, List, [], ◌∷◌, map, ℕ, zero, suc, ◌+◌, ◌-◌, ◌*◌, ◌/◌, ◌%◌, ltb, get_or}
 use Rattle.relations.specs.declared.CodeSets.{CodeSets}
 use Rattle.relations.specs.Sets.{member, ◌to◌, packed}
 use Rattle.relations.specs.Axis.{CODES, turned}
@@ -47,11 +47,21 @@ abbrev pub direction : ℕ → ℕ → Codes
 direction zero k = record { on_y = get_or north_y k []; on_x = get_or north_x k [] }
 direction (suc d) k = quarter_turn (direction d k)
 
+-- "A relation number from 8 to 39 is 8 + 8 times d + k", and its d and k
+abbrev pub directed : ℕ → ℕ → ℕ
+directed d k = 8 + 8 * d + k
+
+abbrev pub direction_of : ℕ → ℕ
+direction_of t = (t - 8) / 8
+
+abbrev pub kind_of : ℕ → ℕ
+kind_of t = (t - 8) % 8
+
 -- the codes of relation t; none for a number that is no relation
 abbrev pub codes_of : ℕ → Codes
 codes_of t =
     cond (ltb t 8) (record { on_y = get_or topological t []; on_x = get_or topological t [] })
-    (cond (ltb t RELATIONS) (direction ((t - 8) / 8) ((t - 8) % 8)) (record { on_y = []; on_x = [] }))
+    (cond (ltb t RELATIONS) (direction (direction_of t) (kind_of t)) (record { on_y = []; on_x = [] }))
 
 -- configuration (i, j) belongs to relation t
 unfoldable pub in_relation : ℕ → ℕ → ℕ → Bool

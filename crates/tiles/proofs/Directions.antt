@@ -9,7 +9,7 @@ use lib.Dec.{T}
 use borrow.Author.Tests.{ltb-false, le-ltb, not-true}
 use Rattle.relations.specs.Sets.{member}
 use Rattle.relations.specs.Axis.{CODES}
-use Rattle.relations.specs.Relation.{in_relation}
+use Rattle.relations.specs.Relation.{in_relation, directed}
 use Rattle.relations.proofs.Bits.{none_below}
 use Rattle.relations.proofs.Tests.{all_below, all_pairs, all-at, pair-at, beq-eq}
 use Rattle.relations.proofs.Sides.{is_code, of_code}
@@ -18,7 +18,7 @@ use Rattle.pages.specs.Lists.{sum_below}
 use Rattle.pages.specs.Rectangles.{valid}
 use Rattle.pages.proofs.Below.{below-same, below-add, below_at}
 use Rattle.tiles.specs.Tiles.{TILES, area_of, area_in}
-use Rattle.tiles.specs.Names.{within, side, middle, corner, directed, COVERED_BY, STRONG, BOUNDED, CORNER, JUST, code_y, code_x, stands}
+use Rattle.tiles.specs.Names.{within, side, middle, corner, COVERED_BY, STRONG, BOUNDED, CORNER, JUST, code_y, code_x, stands}
 use Rattle.tiles.specs.Claims.{area_at, area_over}
 use Rattle.tiles.proofs.Areas.{areas-add}
 use Rattle.tiles.proofs.Adding.{area-at}

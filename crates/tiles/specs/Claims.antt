@@ -1,12 +1,13 @@
 -- What is proved of the call beyond its equation.
 use Rattle.std.specs.Prelude.{ℕ, ◌+◌, ◌-◌, ◌*◌, ◌/◌, ◌%◌, ◌<◌, min, max, ◌≡◌, true, false, ◌&&◌, ◌||◌, cond, ◌↔◌, List, [], ◌∷◌, map, T, ltb, get_or}
 use Rattle.relations.specs.Sets.{member}
+use Rattle.relations.specs.Relation.{directed}
 use Rattle.pages.specs.declared.Rect.{Rect}
 use Rattle.pages.specs.Lists.{sum, sum_below}
 use Rattle.pages.specs.Rectangles.{valid}
 use Rattle.tiles.specs.Tiles.{STRIPS, TILES, area_of}
 use Rattle.tiles.specs.Calls.{THOUSAND, shares_call}
-use Rattle.tiles.specs.Names.{within, singles, side, middle, corner, directed, COVERED_BY, STRONG, BOUNDED, CORNER, JUST, code_y, code_x, stands, codes_in}
+use Rattle.tiles.specs.Names.{within, singles, side, middle, corner, COVERED_BY, STRONG, BOUNDED, CORNER, JUST, code_y, code_x, stands, codes_in}
 use Rattle.tiles.specs.Examples.{Known, known}
 
 abbrev pub added : List ℕ → ℕ

@@ -1,5 +1,5 @@
 -- The tiles by name: the single-tile relations of source document 000, and the sides and corners of document 01's directions.
-use Rattle.std.specs.Prelude.{ℕ, ◌+◌, ◌*◌, Bool, ◌&&◌, List, [], ◌∷◌, leb, get_or}
+use Rattle.std.specs.Prelude.{ℕ, Bool, ◌&&◌, List, [], ◌∷◌, leb, get_or}
 use Rattle.relations.specs.Sets.{◌to◌}
 use Rattle.relations.specs.Axis.{code}
 use Rattle.relations.specs.Relation.{in_relation}
@@ -67,10 +67,6 @@ middle d = get_or ((north ∷ []) ∷ (east ∷ []) ∷ (south ∷ []) ∷ (west
 -- "strong corner (north_east)"; "Each further d is a quarter turn clockwise"
 abbrev pub corner : ℕ → List ℕ
 corner d = get_or ((north_east ∷ []) ∷ (south_east ∷ []) ∷ (south_west ∷ []) ∷ (north_west ∷ []) ∷ []) d []
-
--- "A relation number from 8 to 39 is 8 + 8 times d + k"
-abbrev pub directed : ℕ → ℕ → ℕ
-directed d k = 8 + 8 * d + k
 
 -- "3 covered_by"
 abbrev pub COVERED_BY : ℕ

@@ -30,7 +30,7 @@ use Rattle.query.proofs.Pieces.{one_rect}
 use Rattle.history.specs.History.{table_after}
 use Rattle.history.specs.Demand3.{Asked}
 use Rattle.history.proofs.Reached.{reached-after}
-use Rattle.turning.specs.Both.{listed_words, Parted, OnSoundTables, AfterCalls}
+use Rattle.turning.specs.Both.{listed_words, TwoClauses, MoreClauses, OnSoundTables, AfterCalls}
 
 -- each part is a query where the whole is
 bad-parts : (cs ds : List ℕ) → some_bad (cs ++ ds) ≡ (some_bad cs || some_bad ds)
@@ -62,8 +62,8 @@ module _ (w : List ℕ) (long : TABLE_WORDS ≤ length w) (holds : T (sound w)) 
     refusal = accepts q clauses (length answer) (table_in w).count (record { rectangle = A.rectangle; query = A.query; room = room });
   }
 
-  call-accepted : (query_call w q clauses answer).0.refusal ≡ ACCEPTED
-  call-accepted = ap (λ x. x.0.refusal) (answer-is w q clauses answer good)
+  call-taken : (query_call w q clauses answer).0.refusal ≡ ACCEPTED
+  call-taken = ap (λ x. x.0.refusal) (answer-is w q clauses answer good)
 
   call-words : listed_words (query_call w q clauses answer) ≡ query_listing w q clauses
   call-words =
@@ -73,12 +73,12 @@ module _ (w : List ℕ) (long : TABLE_WORDS ≤ length w) (holds : T (sound w)) 
   call-lists : (n : ℕ) → In n (listed_words (query_call w q clauses answer)) ↔ ((r : Rect) × PieceAt (table_in w) n r × (admits_rect clauses q r ≡ true))
   call-lists n = rw call-words (listed w q clauses (length answer) good n)
 
-pub more-clauses : OnSoundTables (λ table words. (q : Rect) (c d : ℕ) (cs ds : List ℕ) → Parted table q (c ∷ cs) (d ∷ ds) words)
+pub more-clauses : OnSoundTables MoreClauses
 unfolding admits_rect
 more-clauses w long holds q c d cs ds A answer answer₁ answer₂ k k₁ k₂ = record {
-  accepted = call-accepted w long holds q (first ++ second) answer A k;
-  first-accepted = call-accepted w long holds q first answer₁ A₁ k₁;
-  second-accepted = call-accepted w long holds q second answer₂ A₂ k₂;
+  accepted = call-taken w long holds q (first ++ second) answer A k;
+  first-accepted = call-taken w long holds q first answer₁ A₁ k₁;
+  second-accepted = call-taken w long holds q second answer₂ A₂ k₂;
   exactly = λ n. (to n, from n);
 }
   where
@@ -112,11 +112,15 @@ more-clauses w long holds q c d cs ds A answer answer₁ answer₂ k k₁ k₂ =
         let e : s ≡ r = one_rect (table_in w) (sound-in w holds) n s r there at in
         (call-lists w long holds q (first ++ second) answer A k n).1 (r, at, parts r ∙ both a (rw e at b))
 
-pub two-clauses : OnSoundTables (λ table words. (q : Rect) (c d : ℕ) → Parted table q (c ∷ []) (d ∷ []) words)
+pub two-clauses : OnSoundTables TwoClauses
 two-clauses w long holds q c d = more-clauses w long holds q c d [] []
 
-pub two-clauses-after : AfterCalls (λ table words. (q : Rect) (c d : ℕ) → Parted table q (c ∷ []) (d ∷ []) words)
-two-clauses-after slice l calls q c d A answer answer₁ answer₂ k k₁ k₂ =
+pub more-clauses-after : AfterCalls MoreClauses
+more-clauses-after slice l calls q c d cs ds A answer answer₁ answer₂ k k₁ k₂ =
+    let w = table_after slice calls in
     let R = reached-after slice l calls in
-    let few = count-few (table_in (table_after slice calls)) (sound-in (table_after slice calls) R.sound) in
-    two-clauses (table_after slice calls) R.long R.sound q c d A answer answer₁ answer₂ (le_trans few k) (le_trans few k₁) (le_trans few k₂)
+    let few = count-few (table_in w) (sound-in w R.sound) in
+    more-clauses w R.long R.sound q c d cs ds A answer answer₁ answer₂ (le_trans few k) (le_trans few k₁) (le_trans few k₂)
+
+pub two-clauses-after : AfterCalls TwoClauses
+two-clauses-after slice l calls q c d = more-clauses-after slice l calls q c d [] []

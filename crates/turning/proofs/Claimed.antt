@@ -8,11 +8,12 @@ use Rattle.turning.specs.Turn.{turn_rect, turn_relation, turn_clause, turned_rec
 use Rattle.turning.specs.Claims.{Claims}
 use Rattle.turning.proofs.Relations.{relation-turned}
 use Rattle.turning.proofs.Clauses.{bit-turned, bad-turned, refusal-turned, four-clause, admits-turned}
-use Rattle.turning.proofs.Rects.{valid_same, returned-valid, four-rect, turned-x, turned-y}
+use Rattle.turning.proofs.Rects.{valid_same, returned-valid, four-rect, four-returned, turned-x, turned-y}
 use Rattle.turning.proofs.Lays.{lays, refused-too}
-use Rattle.turning.proofs.Both.{two-clauses, two-clauses-after, more-clauses}
+use Rattle.turning.proofs.Both.{two-clauses, two-clauses-after, more-clauses, more-clauses-after}
 
-known-clauses : map turn_clause (2 ^ 4 ∷ 2 ^ 40 ∷ 2 ^ 8 ∷ 2 ^ 39 ∷ (2 ^ 5 + 2 ^ 31) ∷ []) ≡ 2 ^ 4 ∷ 2 ^ 40 ∷ 2 ^ 16 ∷ 2 ^ 15 ∷ (2 ^ 5 + 2 ^ 39) ∷ []
+known-clauses : map turn_clause (2 ^ 4 ∷ 2 ^ 40 ∷ 2 ^ 8 ∷ 2 ^ 39 ∷ (2 ^ 5 + 2 ^ 31) ∷ [])
+    ≡ 2 ^ 4 ∷ 2 ^ 40 ∷ 2 ^ 16 ∷ 2 ^ 15 ∷ (2 ^ 5 + 2 ^ 39) ∷ []
 unfolding turn_clause turn_relation packed some_below bit
 known-clauses = refl
 
@@ -28,12 +29,14 @@ claimed = record {
   two-clauses = two-clauses;
   two-clauses-after = two-clauses-after;
   more-clauses = more-clauses;
+  more-clauses-after = more-clauses-after;
   rectangle = valid_same;
   returned = returned-valid;
   named = bit-turned;
   clause = bad-turned;
   query = refusal-turned;
   four-rect = four-rect;
+  four-returned = four-returned;
   four-clause = four-clause;
   on-y = turned-y;
   on-x = turned-x;

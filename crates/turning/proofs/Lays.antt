@@ -21,7 +21,7 @@ use Rattle.history.proofs.Book.{book-valid, book-other}
 use Rattle.history.proofs.Reached.{reached-emptied}
 use Rattle.history.proofs.Listed.{admits_slot, admitted_standing, out-hits, out-listing, query-lists}
 use Rattle.turning.specs.Turn.{turn_rect, turn_query, turn_calls, turned_calls}
-use Rattle.turning.specs.Lays.{AllAccepted, SameAnswers, TurnedLay, AnsweredAlike, ForSlices}
+use Rattle.turning.specs.Lays.{AllAccepted, SameAnswers, TurnedLay, TurnedLays, AllAnsweredAlike}
 use Rattle.turning.proofs.Clauses.{refusal-turned}
 use Rattle.turning.proofs.Rects.{turned-valid, turned-is, rect-turned}
 use Rattle.turning.proofs.Calls.{turn_slot, TurnedBook, Turned, refusals-same, after-calls, accepted-calls}
@@ -89,8 +89,8 @@ module _ (slice slice' : List ℕ) (l : TABLE_WORDS ≤ length slice) (l' : TABL
         listed = subst (λ cs. SameAnswers (table_after slice calls) (table_after slice' cs)) e listed-alike;
       }
 
-pub lays : ForSlices (λ slice slice'. (calls : List Call) → AllAccepted slice calls → TurnedLay slice slice' calls)
+pub lays : TurnedLays
 lays slice slice' l l' calls ok = turned-lay slice slice' l l' calls ok
 
-pub refused-too : ForSlices (λ slice slice'. (calls : List Call) → AnsweredAlike slice slice' calls)
+pub refused-too : AllAnsweredAlike
 refused-too slice slice' l l' calls = record { refusals = refused-alike slice slice' l l' calls; listed = listed-alike slice slice' l l' calls }

@@ -45,6 +45,13 @@ four-rect r v =
     let d : EDGE - (EDGE - r.y2) ≡ r.y2 = omega (arith, e.y-end) in
     λ i. record { x1 = a i; y1 = b i; x2 = c i; y2 = d i }
 
+pub four-returned : (r : Rect) → T (valid r) → turned_rect (turned_rect (turned_rect (turned_rect r))) ≡ r
+four-returned r v =
+    let v1 = turned-valid r v in
+    let v2 = turned-valid (turn_rect r) v1 in
+    let v3 = turned-valid (turn_rect (turn_rect r)) v2 in
+    rw (turned-is r v, turned-is (turn_rect r) v1, turned-is (turn_rect (turn_rect r)) v2, turned-is (turn_rect (turn_rect (turn_rect r))) v3) (four-rect r v)
+
 -- the configuration (i, j) becomes (j turned round, i)
 module _ (q p : Rect) where
   pub turned-x : code_x (turn_rect q) (turn_rect p) ≡ code_y q p

@@ -1,5 +1,5 @@
 -- "Show also that a query of two clauses lists exactly the pieces that both single clauses list."
-use Rattle.std.specs.Prelude.{ℕ, ◌≤◌, ◌≡◌, ◌↔◌, List, ◌++◌, length, take, T}
+use Rattle.std.specs.Prelude.{ℕ, ◌≤◌, ◌≡◌, ◌↔◌, List, [], ◌∷◌, ◌++◌, length, take, T}
 use Rattle.pages.specs.declared.Rect.{Rect}
 use Rattle.pages.specs.Sizes.{TABLE_WORDS, PIECES}
 use Rattle.pages.specs.Refusals.{ACCEPTED}
@@ -30,6 +30,14 @@ Parted table reference first second words =
     → (answer answer₁ answer₂ : List ℕ) → words ≤ length answer → words ≤ length answer₁ → words ≤ length answer₂
     → BothListed (query_call table reference (first ++ second) answer) (query_call table reference first answer₁)
     (query_call table reference second answer₂)
+
+-- one clause and one clause
+abbrev pub TwoClauses : (table : List ℕ) (words : ℕ) → Type 0
+TwoClauses table words = (q : Rect) (c d : ℕ) → Parted table q (c ∷ []) (d ∷ []) words
+
+-- with any further clauses beside each of the two
+abbrev pub MoreClauses : (table : List ℕ) (words : ℕ) → Type 0
+MoreClauses table words = (q : Rect) (c d : ℕ) (cs ds : List ℕ) → Parted table q (c ∷ cs) (d ∷ ds) words
 
 -- on every sound table; answer slices hold the piece count
 abbrev pub OnSoundTables : ((table : List ℕ) (words : ℕ) → Type 0) → Type 0

@@ -8,22 +8,22 @@ use Rattle.pages.specs.declared.Rect.{Rect}
 use Rattle.pages.specs.Sizes.{EDGE}
 use Rattle.pages.specs.Rectangles.{rect_of, valid}
 use Rattle.query.specs.Admission.{code_y, code_x}
-use Rattle.history.specs.Book.{Call}
 use Rattle.turning.specs.Turn.{turn_rect, turn_relation, turn_clause, turn_query, turned_rect}
-use Rattle.turning.specs.Lays.{AllAccepted, TurnedLay, AnsweredAlike, ForSlices}
-use Rattle.turning.specs.Both.{Parted, OnSoundTables, AfterCalls}
+use Rattle.turning.specs.Lays.{TurnedLays, AllAnsweredAlike}
+use Rattle.turning.specs.Both.{TwoClauses, MoreClauses, OnSoundTables, AfterCalls}
 
 pub record Claims : Type 0 where
   -- "For any list of accepted place calls from the empty table, any valid query with a valid reference, and 1,024 or more answer words,
   -- the turned query on the turned pieces lists the same numbers."
-  pub lays : ForSlices (λ slice turnedSlice. (calls : List Call) → AllAccepted slice calls → TurnedLay slice turnedSlice calls)
+  pub lays : TurnedLays
   -- and so where some of the calls are refused
-  pub refused-too : ForSlices (λ slice turnedSlice. (calls : List Call) → AnsweredAlike slice turnedSlice calls)
+  pub refused-too : AllAnsweredAlike
   -- "a query of two clauses lists exactly the pieces that both single clauses list"
-  pub two-clauses : OnSoundTables (λ table words. (q : Rect) (c d : ℕ) → Parted table q (c ∷ []) (d ∷ []) words)
-  pub two-clauses-after : AfterCalls (λ table words. (q : Rect) (c d : ℕ) → Parted table q (c ∷ []) (d ∷ []) words)
+  pub two-clauses : OnSoundTables TwoClauses
+  pub two-clauses-after : AfterCalls TwoClauses
   -- and so with any further clauses beside each of the two
-  pub more-clauses : OnSoundTables (λ table words. (q : Rect) (c d : ℕ) (cs ds : List ℕ) → Parted table q (c ∷ cs) (d ∷ ds) words)
+  pub more-clauses : OnSoundTables MoreClauses
+  pub more-clauses-after : AfterCalls MoreClauses
   -- a turned rectangle is valid exactly when the rectangle is (with x2 beyond the cloth, 1,000,000 - x2 is no number); and so is, for any
   -- numbers, what `turned_rect` returns
   pub rectangle : (r : Rect) → r.x2 ≤ EDGE → valid (turn_rect r) ≡ valid r
@@ -34,6 +34,7 @@ pub record Claims : Type 0 where
   pub query : (clauses : List ℕ) → refusal_of (turn_query clauses) ≡ refusal_of clauses
   -- four turns are no turn
   pub four-rect : (r : Rect) → T (valid r) → turn_rect (turn_rect (turn_rect (turn_rect r))) ≡ r
+  pub four-returned : (r : Rect) → T (valid r) → turned_rect (turned_rect (turned_rect (turned_rect r))) ≡ r
   pub four-clause : (c : ℕ) → turn_clause (turn_clause (turn_clause (turn_clause c))) ≡ c
   -- the configuration (i, j) becomes (j turned round, i)
   pub on-y : (q p : Rect) → T (valid q) → T (valid p) → code_y (turn_rect q) (turn_rect p) ≡ turned (code_x q p)
@@ -41,8 +42,10 @@ pub record Claims : Type 0 where
   -- it belongs to the turned relation, and is admitted by the turned clauses, exactly when (i, j) is
   pub relation : (t i j : ℕ) → t < RELATIONS → IsCode i → IsCode j → in_relation (turn_relation t) (turned j) i ≡ in_relation t i j
   pub admitted : (clauses : List ℕ) (i j : ℕ) → IsCode i → IsCode j → admits (turn_query clauses) (turned j) i ≡ admits clauses i j
-  -- computed: inside and bit 40 stay, strong north goes to strong east, plain west to plain north, equal and plain south to equal and plain west
-  pub known-clauses : map turn_clause (2 ^ 4 ∷ 2 ^ 40 ∷ 2 ^ 8 ∷ 2 ^ 39 ∷ (2 ^ 5 + 2 ^ 31) ∷ []) ≡ 2 ^ 4 ∷ 2 ^ 40 ∷ 2 ^ 16 ∷ 2 ^ 15 ∷ (2 ^ 5 + 2 ^ 39) ∷ []
+  -- computed: inside and bit 40 stay, strong north goes to strong east, plain west to plain north, equal and plain south to equal and
+  -- plain west
+  pub known-clauses : map turn_clause (2 ^ 4 ∷ 2 ^ 40 ∷ 2 ^ 8 ∷ 2 ^ 39 ∷ (2 ^ 5 + 2 ^ 31) ∷ [])
+      ≡ 2 ^ 4 ∷ 2 ^ 40 ∷ 2 ^ 16 ∷ 2 ^ 15 ∷ (2 ^ 5 + 2 ^ 39) ∷ []
   -- the north-east corner of the cloth goes to the south-east; a rectangle without a width, or with an edge of 1,000,001, gives zeros
   pub known-rects : map turned_rect (rect_of 999_990 999_995 1_000_000 1_000_000 ∷ rect_of 5 0 5 7 ∷ rect_of 5 0 1_000_001 7 ∷ [])
       ≡ rect_of 999_995 0 1_000_000 10 ∷ rect_of 0 0 0 0 ∷ rect_of 0 0 0 0 ∷ []

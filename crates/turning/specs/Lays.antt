@@ -21,7 +21,8 @@ AllAccepted slice calls = Every (λ refusal. refusal ≡ ACCEPTED) (refusals_aft
 pub record SameTurned (table turnedTable clauses : List ℕ) (reference : Rect) (answer turnedAnswer : List ℕ) : Type 0 where
   pub accepted : (query_call table reference clauses answer).0.refusal ≡ ACCEPTED
   pub turned-accepted : (query_call turnedTable (turn_rect reference) (turn_query clauses) turnedAnswer).0.refusal ≡ ACCEPTED
-  pub listing : SameListing (query_call table reference clauses answer) (query_call turnedTable (turn_rect reference) (turn_query clauses) turnedAnswer)
+  pub listing : SameListing (query_call table reference clauses answer)
+      (query_call turnedTable (turn_rect reference) (turn_query clauses) turnedAnswer)
 
 -- "any valid query with a valid reference, and 1,024 or more answer words"
 abbrev pub SameAnswers : (table turnedTable : List ℕ) → Type 0
@@ -40,6 +41,13 @@ pub record AnsweredAlike (slice turnedSlice : List ℕ) (calls : List Call) : Ty
   pub refusals : refusals_after turnedSlice (turned_calls calls) ≡ refusals_after slice calls
   pub listed : SameAnswers (table_after slice calls) (table_after turnedSlice (turned_calls calls))
 
--- for every two slices that hold a table
-abbrev pub ForSlices : (List ℕ → List ℕ → Type 0) → Type 0
-ForSlices P = (slice turnedSlice : List ℕ) → TABLE_WORDS ≤ length slice → TABLE_WORDS ≤ length turnedSlice → P slice turnedSlice
+-- every list, and every two slices that hold a table
+abbrev pub TurnedLays : Type 0
+TurnedLays =
+    (slice turnedSlice : List ℕ) → TABLE_WORDS ≤ length slice → TABLE_WORDS ≤ length turnedSlice → (calls : List Call)
+    → AllAccepted slice calls → TurnedLay slice turnedSlice calls
+
+abbrev pub AllAnsweredAlike : Type 0
+AllAnsweredAlike =
+    (slice turnedSlice : List ℕ) → TABLE_WORDS ≤ length slice → TABLE_WORDS ≤ length turnedSlice → (calls : List Call)
+    → AnsweredAlike slice turnedSlice calls

@@ -1,21 +1,11 @@
 -- The quarter turn of request 2.9, which is clockwise: north goes to east.
 use Rattle.std.specs.Prelude.{ℕ, ◌+◌, ◌-◌, ◌*◌, ◌/◌, ◌%◌, ◌^◌, cond, ◌&&◌, List, map, ltb, eqb}
 use Rattle.relations.specs.Sets.{bit, packed, some_below}
-use Rattle.relations.specs.Relation.{RELATIONS}
+use Rattle.relations.specs.Relation.{RELATIONS, directed, direction_of, kind_of}
 use Rattle.pages.specs.declared.Rect.{Rect}
 use Rattle.pages.specs.Sizes.{EDGE}
 use Rattle.pages.specs.Rectangles.{rect_of, valid}
 use Rattle.history.specs.Book.{Call}
-
--- "A relation number from 8 to 39 is 8 + 8 times d + k", and its d and k
-abbrev pub directed : ℕ → ℕ → ℕ
-directed d k = 8 + 8 * d + k
-
-abbrev pub direction_of : ℕ → ℕ
-direction_of t = (t - 8) / 8
-
-abbrev pub kind_of : ℕ → ℕ
-kind_of t = (t - 8) % 8
 
 -- "Send each rectangle, the reference too, to (y1, 1,000,000 - x2, y2, 1,000,000 - x1)"
 unfoldable pub turn_rect : Rect → Rect
