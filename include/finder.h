@@ -280,7 +280,8 @@ finder_shares finder_tile_shares(uint32_t px1, uint32_t py1,
    so that what was north is east. Take the table in which every piece stands
    turned. A query with the turned reference and every clause turned lists there
    the numbers that the query lists in the table of the pieces; how many pages
-   it opens may differ. Four turns of a valid rectangle or of a clause are none.
+   it opens may differ. Four turns of a valid rectangle or of a clause are none,
+   so three turn back.
    Neither call refuses anything, and so neither returns a refusal. */
 
 /* Gives the turned rectangle, (y1, FINDER_EDGE - x2, y2, FINDER_EDGE - x1). A
@@ -289,10 +290,10 @@ finder_shares finder_tile_shares(uint32_t px1, uint32_t py1,
 finder_rect finder_turned_rect(uint32_t x1, uint32_t y1,
                                uint32_t x2, uint32_t y2);
 
-/* Gives the turned clause: of each directed relation that it names the same
-   kind of the next direction, north after west. The topological relations stay,
-   and so do bits 40 to 63, which stand for none: a turned clause is valid
-   exactly when the clause is. */
+/* Gives the turned clause. For each directed relation that the clause names it
+   names the one of the same kind in the next direction, north after west. The
+   topological relations stay, and so do bits 40 to 63, which stand for none: a
+   turned clause is valid exactly when the clause is. */
 uint64_t finder_turned_clause(uint64_t clause);
 
 #ifdef __cplusplus
