@@ -2,7 +2,7 @@
 use Prim.Native.Nat.{ℕ, ◌-◌, ◌≤◌}
 use native.Mathlib.Omega.{arith}
 use mathlib.Core.Path.{◌≡◌, refl, sym, ap₂, ◌∙◌, subst}
-use mathlib.Core.Bool.{true, false}
+use mathlib.Core.Bool.{true}
 use mathlib.Core.List.{List}
 use lib.Dec.{T}
 use Rattle.std.proofs.lemmas.Grind.{common_steps}
@@ -12,7 +12,7 @@ use Rattle.relations.proofs.Sides.{is_code}
 use Rattle.relations.proofs.Turned.{code-round}
 use Rattle.pages.specs.declared.Rect.{Rect}
 use Rattle.pages.specs.Sizes.{EDGE}
-use Rattle.pages.specs.Rectangles.{rect_of, valid}
+use Rattle.pages.specs.Rectangles.{valid}
 use Rattle.pages.proofs.Lists.{true-T, T_true}
 use Rattle.pages.proofs.Valid.{edges}
 use Rattle.query.specs.Admission.{code_y, code_x, admits_rect}
@@ -70,17 +70,8 @@ module _ (q p : Rect) where
         ap₂ (λ i j. admits (turn_query clauses) i j) turned-y turned-x
         ∙ admits-turned (code_y q p) (code_x q p) (is_code p.y1 p.y2 q.y1 q.y2) (is_code p.x1 p.x2 q.x1 q.x2) clauses
 
--- what the source returns, by the answer of `is_valid`
-module _ (r : Rect) where
-  pub answer_refused : valid r ≡ false → rect_of 0 0 0 0 ≡ turned_rect r
-  unfolding turned_rect
-  answer_refused f = sym (rw f)
-
-  pub answer_turned : valid r ≡ true → rect_of r.y1 (EDGE - r.x2) r.y2 (EDGE - r.x1) ≡ turned_rect r
-  unfolding turned_rect turn_rect
-  answer_turned t = sym (rw t)
-
-  pub edges_fit : valid r ≡ true → (r.x1 ≤ EDGE) × (r.x2 ≤ EDGE)
-  edges_fit t =
-      let e = edges r (true-T (valid r) t) in
-      (e.x-start, e.x-end)
+-- a valid rectangle's edges can be taken off
+pub edges_fit : (r : Rect) → valid r ≡ true → (r.x1 ≤ EDGE) × (r.x2 ≤ EDGE)
+edges_fit r t =
+    let e = edges r (true-T (valid r) t) in
+    (e.x-start, e.x-end)

@@ -7,7 +7,7 @@ ghost use Rattle.turning.specs.Turn.{turned_rect, turn_clause};
 use pages::{EDGE, Rect};
 
 // The rectangle after the turn; zeros for one that is not valid.
-#[tactic(auto, using(crate::proofs::Rects::answer_refused, crate::proofs::Rects::edges_fit))]
+#[tactic(auto, using(crate::proofs::Rects::edges_fit), unfolding(crate::specs::Turn::turned_rect, crate::specs::Turn::turn_rect))]
 pub fn turned_rect(r: Rect) -> Rect
     ensures { result ≡ turned_rect r }
 {
