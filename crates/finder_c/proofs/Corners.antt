@@ -8,7 +8,8 @@ use Rattle.pages.specs.declared.Rect.{Rect}
 use Rattle.pages.specs.Sizes.{EDGE}
 use Rattle.pages.specs.Rectangles.{rect_of, valid}
 use Rattle.placing.specs.Place.{area}
-use Rattle.query.proofs.Tests.{proper, small}
+use Rattle.pages.proofs.Valid.{small}
+use Rattle.query.proofs.Tests.{proper}
 use Rattle.outline.specs.Place.{number_of}
 use Rattle.outline.specs.Calls.{area_call, point_call}
 use Rattle.outline.specs.Claims.{words_of, area_of, located_of, place_in}

@@ -15,9 +15,8 @@ use Rattle.job.specs.Words.{word_at, rect_at, clause_at, clauses_at, piece_count
 use Rattle.job.specs.Claims.{Bytes}
 use Rattle.job.proofs.Reading.{no_clause, last-clause, length-clauses}
 use Rattle.job.proofs.Places.{first-start, next_start}
-use Rattle.pages.proofs.Lists.{T_true}
+use Rattle.pages.proofs.Lists.{T_true, concat-append}
 use Rattle.job.proofs.Items.{exact}
-use Rattle.query.proofs.Concat.{concat-append}
 use Rattle.job.proofs.InOrder.{last-piece, last-query, no-piece, no-query, length-pieces, length-queries}
 
 -- the first n words

@@ -9,6 +9,7 @@ pub mod Cells
 pub mod Over
 pub mod Counting
 pub mod Entries
+pub mod Small
 pub mod Walk
 pub mod Visit
 pub mod Zeros

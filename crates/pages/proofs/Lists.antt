@@ -6,10 +6,10 @@ use native.Mathlib.Decide.{ℕ_discrete, dec_lt}
 use mathlib.Core.Path.{◌≡◌, refl, sym, ◌∙◌}
 use mathlib.Core.Logic.{◌≢◌}
 use mathlib.Core.Bool.{Bool, true, false, ◌&&◌, cond, false≢true}
-use mathlib.Core.List.{List, [], ◌∷◌, ◌++◌}
+use mathlib.Core.List.{List, [], ◌∷◌, ◌++◌, map, append_assoc}
 use lib.ListN.{length, get_or, take, drop, set}
 use lib.Dec.{T}
-use Rattle.pages.specs.Lists.{all_of, sum, all, all_below, sum_below, Every}
+use Rattle.pages.specs.Lists.{all_of, sum, all, concat_map, all_below, sum_below, Every}
 
 -- a test by its value, and by what it says
 pub not-both : (b : Bool) → b ≡ true → b ≡ false → ⊥
@@ -80,6 +80,10 @@ module _ {A : Type 0} where
   pub at_every : (P : A → Type 0) (xs : List A) (d : A) → ((i : ℕ) → i < length xs → P (get_or xs i d)) → Every P xs
   at_every P [] d h = tt
   at_every P (x ∷ xs) d h = (h zero (omega arith), at_every P xs d (λ i l. h (suc i) (omega arith)))
+
+  pub every_one : (P : A → Type 0) → ((x : A) → P x) → (xs : List A) → Every P xs
+  every_one P h [] = tt
+  every_one P h (x ∷ xs) = (h x, every_one P h xs)
 
   pub every_map : (P Q : A → Type 0) → ((x : A) → P x → Q x) → (xs : List A) → Every P xs → Every Q xs
   every_map P Q f [] h = tt
@@ -170,3 +174,16 @@ module _ {A : Type 0} where
   pub sum-below : (f : ℕ → A → ℕ) (n : ℕ) (xs : List A) → sum_below n (λ i. sum (f i) xs) ≡ sum (λ x. sum_below n (λ i. f i x)) xs
   sum-below f zero xs = sym (sum_zeros xs)
   sum-below f (suc n) xs = omega (arith, sum-below f n xs, sum-add (f n) (λ x. sum_below n (λ i. f i x)) xs)
+
+module _ {A B : Type 0} where
+  pub concat-append : (f : A → List B) (xs ys : List A) → concat_map f (xs ++ ys) ≡ concat_map f xs ++ concat_map f ys
+  concat-append f [] ys = refl
+  concat-append f (x ∷ xs) ys = rw (append_assoc, concat-append f xs ys)
+
+  pub sum-concat : (g : B → ℕ) (f : A → List B) (xs : List A) → sum g (concat_map f xs) ≡ sum (λ x. sum g (f x)) xs
+  sum-concat g f [] = refl
+  sum-concat g f (x ∷ xs) = omega (arith, sum-append g (f x) (concat_map f xs), sum-concat g f xs)
+
+  pub sum-map : (g : B → ℕ) (f : A → B) (xs : List A) → sum g (map f xs) ≡ sum (λ x. g (f x)) xs
+  sum-map g f [] = refl
+  sum-map g f (x ∷ xs) = omega (arith, sum-map g f xs)

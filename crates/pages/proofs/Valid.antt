@@ -7,7 +7,7 @@ use lib.Dec.{T, leb, ltb, leb→le, ltb→lt}
 use Rattle.std.proofs.lemmas.Grind.{common_steps}
 use Rattle.pages.specs.declared.Rect.{Rect}
 use Rattle.pages.specs.Sizes.{EDGE}
-use Rattle.pages.specs.Rectangles.{valid}
+use Rattle.pages.specs.Rectangles.{valid, Small}
 use Rattle.pages.proofs.Lists.{holds}
 
 pub record Edges (r : Rect) : Type 0 where
@@ -23,6 +23,11 @@ unfolding valid
 edges r v =
     let (p, (q, (a, (b, (c, (d, _)))))) = holds (ltb r.x1 r.x2 ∷ ltb r.y1 r.y2 ∷ leb r.x1 EDGE ∷ leb r.y1 EDGE ∷ leb r.x2 EDGE ∷ leb r.y2 EDGE ∷ []) v in
     record { on-x = ltb→lt _ _ p; on-y = ltb→lt _ _ q; x-start = leb→le _ _ a; y-start = leb→le _ _ b; x-end = leb→le _ _ c; y-end = leb→le _ _ d }
+
+pub small : (r : Rect) → T (valid r) → Small r
+small r v =
+    let e = edges r v in
+    record { x-start = e.x-start; y-start = e.y-start; x-end = e.x-end; y-end = e.y-end }
 
 -- where the edges are in order and the east is within the limit, the north decides
 pub valid_north : (r : Rect) → r.x1 < r.x2 → r.y1 < r.y2 → r.x2 ≤ EDGE → leb r.y2 EDGE ≡ valid r

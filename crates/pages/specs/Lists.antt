@@ -1,5 +1,5 @@
 -- Small tools of the definitions: sums and tests over lists, and over the numbers below n.
-use Rattle.std.specs.Prelude.{ℕ, zero, suc, ◌+◌, Bool, true, ◌&&◌, cond, List, [], ◌∷◌, ◌++◌}
+use Rattle.std.specs.Prelude.{ℕ, zero, suc, ◌+◌, Bool, true, false, ◌&&◌, ◌||◌, cond, List, [], ◌∷◌, ◌++◌, eqb}
 
 -- 1 where the test passes
 abbrev pub one : Bool → ℕ
@@ -9,6 +9,11 @@ one b = cond b 1 0
 abbrev pub all_of : List Bool → Bool
 all_of [] = true
 all_of (b ∷ bs) = b && all_of bs
+
+-- whether n stands in a list
+abbrev pub is_among : ℕ → List ℕ → Bool
+is_among n [] = false
+is_among n (m ∷ ms) = eqb n m || is_among n ms
 
 module _ {A : Type 0} where
   -- the sum of a weight over a list
@@ -39,3 +44,7 @@ all_below (suc n) p = p n && all_below n p
 abbrev pub sum_below : ℕ → (ℕ → ℕ) → ℕ
 sum_below zero f = 0
 sum_below (suc n) f = f n + sum_below n f
+
+-- how often n stands in a list
+abbrev pub times : ℕ → List ℕ → ℕ
+times n xs = sum (λ x. one (eqb x n)) xs

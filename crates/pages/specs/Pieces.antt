@@ -1,5 +1,5 @@
--- Pieces and rectangles, and valid ones.
-use Rattle.std.specs.Prelude.{ℕ, ◌≡◌, ◌≤◌, ◌<◌, true, false, Result, Ok, Err}
+-- Pieces and rectangles, and valid ones; the pieces of a table.
+use Rattle.std.specs.Prelude.{ℕ, ◌≡◌, ◌≤◌, ◌<◌, true, false, length, get_or, Result, Ok, Err}
 use Rattle.std.specs.Bool.{MatchBool}
 use Rattle.refusals.specs.declared.Refusal.{Refusal}
 use Rattle.refusals.specs.declared.Refusal.TheVariants.{RectangleNotValid, NumberTooLarge}
@@ -9,6 +9,7 @@ use Rattle.pages.specs.declared.piece.ValidRect.{ValidRect}
 use Rattle.pages.specs.declared.piece.ValidPiece.{ValidPiece}
 use Rattle.pages.specs.Sizes.{PIECES}
 use Rattle.pages.specs.Rectangles.{valid}
+use Rattle.pages.specs.Layout.{Table, no_entry, page}
 
 -- the rectangle itself where it is valid, or why it is refused
 abbrev pub IsValidRectOf : Rect → Result ValidRect Refusal → Type 0
@@ -22,3 +23,13 @@ IsValidPieceOf p (Err refusal) = MatchBool (valid p.rect) ((PIECES ≤ p.number)
 
 abbrev pub piece_of : ℕ → Rect → Piece
 piece_of n r = record { number = n; rect = r }
+
+-- c is a piece of the table and has the rectangle r
+pub record PieceAt (t : Table) (c : ℕ) (r : Rect) : Type 0 where
+  pub leaf : ℕ
+  pub place : ℕ
+  pub inside : leaf < length t.pages
+  pub level : (page t leaf).level ≡ 0
+  pub entry : place < length (page t leaf).entries
+  pub number : (get_or (page t leaf).entries place no_entry).r ≡ c
+  pub rectangle : (get_or (page t leaf).entries place no_entry).rect ≡ r

@@ -1,5 +1,5 @@
 -- Rectangles and entries.
-use Rattle.std.specs.Prelude.{ℕ, min, max, Bool, List, [], ◌∷◌, leb, ltb, eqb}
+use Rattle.std.specs.Prelude.{ℕ, ◌≤◌, min, max, Bool, List, [], ◌∷◌, leb, ltb, eqb}
 use Rattle.pages.specs.declared.Rect.{Rect}
 use Rattle.pages.specs.declared.Entry.{Entry}
 use Rattle.pages.specs.Sizes.{EDGE}
@@ -22,6 +22,13 @@ valid r =
     ∷ leb r.x2 EDGE
     ∷ leb r.y2 EDGE
     ∷ [])
+
+-- "none exceeds 1,000,000", of any rectangle
+pub record Small (r : Rect) : Type 0 where
+  pub x-start : r.x1 ≤ EDGE
+  pub y-start : r.y1 ≤ EDGE
+  pub x-end : r.x2 ≤ EDGE
+  pub y-end : r.y2 ≤ EDGE
 
 unfoldable pub same_rect : Rect → Rect → Bool
 same_rect a b = all_of (eqb a.x1 b.x1 ∷ eqb a.y1 b.y1 ∷ eqb a.x2 b.x2 ∷ eqb a.y2 b.y2 ∷ [])

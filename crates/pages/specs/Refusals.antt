@@ -27,3 +27,11 @@ ALREADY_STANDING = 7
 -- 8 "answer slice shorter than the piece count (query) or than k (opened pages)"
 abbrev pub ANSWER_TOO_SHORT : ℕ
 ANSWER_TOO_SHORT = 8
+
+-- 13 "point or allowance out of range"
+abbrev pub OUT_OF_RANGE : ℕ
+OUT_OF_RANGE = 13
+
+-- 14 "table without pieces"
+abbrev pub NO_PIECES : ℕ
+NO_PIECES = 14

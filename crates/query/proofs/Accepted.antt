@@ -10,7 +10,8 @@ use mathlib.Core.List.{List, [], ◌∷◌, ◌++◌}
 use lib.ListN.{length, get_or, drop}
 use lib.Dec.{T, ltb, eqb}
 use borrow.Author.Tests.{ltb-false, le-ltb, ne_eqb}
-use Rattle.query.specs.Demand2.{In, PieceAt, QuarterIn}
+use Rattle.pages.specs.Pieces.{PieceAt}
+use Rattle.query.specs.Demand2.{In, QuarterIn}
 use Rattle.relations.specs.Sets.{digit, total}
 use Rattle.relations.specs.Axis.{CODES, IsCode, code}
 use Rattle.relations.specs.Query.{admits, admitted_count}
@@ -18,7 +19,7 @@ use Rattle.relations.proofs.Sides.{is_code, code-suc}
 use Rattle.pages.specs.declared.Rect.{Rect}
 use Rattle.pages.specs.declared.Entry.{Entry}
 use Rattle.pages.specs.Sizes.{TABLE_WORDS}
-use Rattle.pages.specs.Lists.{one, concat_map, Every}
+use Rattle.pages.specs.Lists.{one, concat_map, Every, times}
 use Rattle.pages.specs.Refusals.{ACCEPTED, TABLE_TOO_SHORT, TABLE_NOT_SOUND}
 use Rattle.pages.specs.Layout.{Page, no_entry, page_at, page, table_in}
 use Rattle.pages.specs.Sound.{sound}
@@ -28,7 +29,7 @@ use Rattle.pages.proofs.Whole.{sound-in}
 use Rattle.query.specs.declared.Answer.{Answer}
 use Rattle.query.specs.Admission.{code_y, code_x, admits_rect, opens}
 use Rattle.query.specs.Opening.{opened_under, opened_pages}
-use Rattle.query.specs.Calls.{sound_refusal, no_answer, query_listing, query_opened, query_answer, query_sound, query_call, times}
+use Rattle.query.specs.Calls.{sound_refusal, no_answer, query_listing, query_opened, query_answer, query_sound, query_call}
 use Rattle.query.proofs.Members.{in-times, times-in, once-apart}
 use Rattle.query.proofs.Pieces.{listed-exactly, listed-rising}
 use Rattle.query.proofs.Tests.{Proper, proper, quarter-rule}

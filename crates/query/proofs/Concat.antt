@@ -7,13 +7,7 @@ use mathlib.Core.List.{List, [], ◌∷◌, ◌++◌, append_assoc, append-nil}
 use lib.ListN.{length, set, take, drop, length-drop, drop_of_length-le}
 use lib.Seq.{sets, sets-eq, take_all, drop-drop}
 use borrow.Rule.Slice.PartMut.{put_mid}
-use Rattle.pages.specs.Lists.{concat_map}
 use Rattle.query.specs.Marks.{with_mark, marked}
-
-module _ {A B : Type 0} (f : A → List B) where
-  pub concat-append : (xs ys : List A) → concat_map f (xs ++ ys) ≡ concat_map f xs ++ concat_map f ys
-  concat-append [] ys = refl
-  concat-append (x ∷ xs) ys = rw (append_assoc, concat-append xs ys)
 
 pub marked_append : (m xs ys : List ℕ) → marked m (xs ++ ys) ≡ marked (marked m xs) ys
 unfolding marked

@@ -16,9 +16,9 @@ use Rattle.relations.proofs.Near.{Shut, shut-y, shut-x, apart, outside, near-shu
 use Rattle.relations.proofs.Whole.{Overlapping, overlapping, whole-leaf, whole-page, reach-inner, inner-is, near-is}
 use Rattle.pages.specs.declared.Rect.{Rect}
 use Rattle.pages.specs.Sizes.{EDGE}
-use Rattle.pages.specs.Rectangles.{rect_of, valid}
+use Rattle.pages.specs.Rectangles.{rect_of, valid, Small}
 use Rattle.query.specs.Admission.{code_y, code_x}
-use Rattle.query.specs.Steps.{Small, admits_by, opens_by}
+use Rattle.query.specs.Steps.{admits_by, opens_by}
 use Rattle.query.specs.Window.{window_for, beyond, decided, Decides}
 use Rattle.query.proofs.Tests.{Proper, proper}
 

@@ -6,7 +6,7 @@ use mathlib.Core.Bool.{Bool, true, false, ◌||◌}
 use lib.Dec.{leb, ltb}
 use borrow.Author.Tests.{leb-true, leb-false, le-leb, lt-leb}
 use Rattle.pages.specs.declared.Rect.{Rect}
-use Rattle.query.specs.Steps.{Small}
+use Rattle.pages.specs.Rectangles.{Small}
 use Rattle.query.specs.Window.{HALF, paired_of, TOP, over, MOST, window_in, Roomy, beyond}
 
 same-order : (a b c d : ℕ) → (a ≤ b → c ≤ d) → (b < a → d < c) → leb a b ≡ leb c d

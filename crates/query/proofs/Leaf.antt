@@ -8,7 +8,8 @@ use Rattle.pages.specs.declared.Entry.{Entry}
 use Rattle.pages.specs.Sizes.{PIECES}
 use Rattle.pages.specs.Lists.{concat_map, Every}
 use Rattle.pages.specs.Layout.{page, table_in}
-use Rattle.query.specs.Steps.{Small, SoundPage, admitted_r, hits_on}
+use Rattle.pages.specs.Rectangles.{Small}
+use Rattle.query.specs.Steps.{SoundPage, admitted_r, hits_on}
 use Rattle.query.specs.Marks.{with_mark, marked}
 use Rattle.query.proofs.Edges.{piece-entries}
 use Rattle.query.proofs.Walking.{hits-leaf}

@@ -10,35 +10,26 @@ use lib.Dec.{T, ltb, eqb}
 use Rattle.pages.specs.declared.Rect.{Rect}
 use Rattle.pages.specs.declared.Entry.{Entry}
 use Rattle.pages.specs.Sizes.{PIECES}
-use Rattle.pages.specs.Lists.{one, sum, sum_below, concat_map, Every}
+use Rattle.pages.specs.Lists.{one, sum, sum_below, concat_map, Every, times}
 use Rattle.pages.specs.Rectangles.{valid}
 use Rattle.pages.specs.Layout.{Table, no_page, page}
 use Rattle.pages.specs.Sound.{piece_entries, is, stored, pieces}
 use Rattle.pages.proofs.Entries.{Fits, fits-above}
-use Rattle.pages.proofs.Lists.{at_every, every_map, sum-append, sum_same, sum-le, sum-cond}
+use Rattle.pages.proofs.Lists.{at_every, every_map, sum_same, sum-le, sum-cond, sum-concat, every_one}
 use Rattle.pages.proofs.Below.{below-le, cond-le}
 use Rattle.pages.proofs.Facts.{Facts}
 use Rattle.pages.proofs.Counting.{stored-sum}
 use Rattle.pages.proofs.Walk.{walked, Within, walk-finds}
 use Rattle.query.specs.Listing.{rising, admitted_as, listing}
-use Rattle.query.specs.Calls.{times}
 use Rattle.query.specs.Opening.{opened_under, opened_pages}
 use Rattle.query.specs.Steps.{admitted_r, hits_on}
 use Rattle.query.specs.Marks.{is_marked, marked, no_marks, marked_numbers}
 use Rattle.query.proofs.Walking.{hits-leaf, hits-above}
 use Rattle.query.proofs.Marks.{marked-new, rising-same}
 
-pub sum-concat : {A B : Type 0} (g : B → ℕ) (f : A → List B) (xs : List A) → sum g (concat_map f xs) ≡ sum (λ x. sum g (f x)) xs
-sum-concat g f [] = refl
-sum-concat g f (x ∷ xs) = omega (arith, sum-append g (f x) (concat_map f xs), sum-concat g f xs)
-
 -- 1 for an admitted entry with the r c
 abbrev weight : (Rect → Bool) → ℕ → Entry → ℕ
 weight admit c e = cond (admit e.rect) (is c e) 0
-
-pub every-entry : (P : Entry → Type 0) → ((e : Entry) → P e) → (es : List Entry) → Every P es
-every-entry P h [] = tt
-every-entry P h (e ∷ es) = (h e, every-entry P h es)
 
 module _ (t : Table) (F : Facts t) (admit opens : Rect → Bool) (c : ℕ) where
   hit-times : (e : Entry) → times c (admitted_r admit e) ≡ weight admit c e
@@ -55,7 +46,7 @@ module _ (t : Table) (F : Facts t) (admit opens : Rect → Bool) (c : ℕ) where
       add-zero (on p)
       ∙ (ap (times c) (hits-leaf admit t p e)
       ∙ (sum-concat (λ x. one (eqb x c)) (admitted_r admit) (page t p).entries
-      ∙ sum_same (λ x. times c (admitted_r admit x)) (weight admit c) (page t p).entries (every-entry _ hit-times (page t p).entries)))
+      ∙ sum_same (λ x. times c (admitted_r admit x)) (weight admit c) (page t p).entries (every_one _ hit-times (page t p).entries)))
   opened-times (suc l) p pl e =
       let z : on p ≡ 0 = ap (times c) (hits-above admit t p (λ y. omega arith)) in
       let child : (x : Entry) → Fits t.pages (suc l) x → sum on (cond (opens x.rect) (opened_under opens t.pages l x.r) []) ≡ cond (opens x.rect) (walked opens (weight admit c) t.pages l x.r) 0
@@ -117,7 +108,7 @@ module _ (t : Table) (admit : Rect → Bool) where
   admitted-le c =
       sum-le (λ p. sum (weight admit c) (piece_entries p)) (λ p. sum (is c) (piece_entries p)) t.pages
       (at_every (λ p. sum (weight admit c) (piece_entries p) ≤ sum (is c) (piece_entries p)) t.pages no_page
-      (λ i l. sum-le (weight admit c) (is c) (piece_entries (page t i)) (every-entry _ (λ e. cond-le (admit e.rect) (is c e)) (piece_entries (page t i)))))
+      (λ i l. sum-le (weight admit c) (is c) (piece_entries (page t i)) (every_one _ (λ e. cond-le (admit e.rect) (is c e)) (piece_entries (page t i)))))
 
   listed-few : (n : ℕ) → ((p : ℕ) → p < length t.pages → Every (λ e. e.r < n) (piece_entries (page t p))) → length (rising n (λ c. ltb 0 (admitted_as admit t c))) ≤ pieces t
   listed-few n small =

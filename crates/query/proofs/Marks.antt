@@ -16,13 +16,12 @@ use Rattle.relations.specs.Sets.{bit, ones_from}
 use Rattle.relations.proofs.Bits.{bit-half, bit-none, bit-or}
 use Rattle.relations.proofs.Lowest.{even, odd, one_shifted, ones_none}
 use Rattle.pages.specs.Sizes.{PIECES}
-use Rattle.pages.specs.Lists.{one, concat_map, Every}
-use Rattle.pages.proofs.Lists.{not-both}
+use Rattle.pages.specs.Lists.{one, concat_map, Every, times}
+use Rattle.pages.proofs.Lists.{not-both, concat-append}
 use Rattle.pages.proofs.Zeros.{zero-at}
 use Rattle.query.specs.Listing.{rising}
-use Rattle.query.specs.Calls.{times}
 use Rattle.query.specs.Marks.{MARK_BITS, MARK_WORDS, is_marked, with_mark, marked, no_marks, Summed, numbers_in, marked_numbers}
-use Rattle.query.proofs.Concat.{concat-append, sets-append}
+use Rattle.query.proofs.Concat.{sets-append}
 
 -- a power of two has one bit
 bit-pow : (j i : ℕ) → bit (2 ^ j) i ≡ eqb i j

@@ -11,10 +11,9 @@ use lib.ListN.{length, get_or, length-append, get_or-append}
 use lib.Seq.{get_or_at}
 use lib.Dec.{eqb}
 use borrow.Author.Tests.{eq-eqb, ne_eqb}
-use Rattle.pages.specs.Lists.{one, sum, Every}
+use Rattle.pages.specs.Lists.{one, sum, Every, times}
 use Rattle.pages.proofs.Lists.{every-at, every_map, every_append, sum-append, sum-at, sum-two}
 use Rattle.query.specs.Listing.{rising}
-use Rattle.query.specs.Calls.{times}
 use Rattle.query.specs.Demand2.{In}
 
 pub in-times : (c : ℕ) (xs : List ℕ) → In c xs → 1 ≤ times c xs

@@ -12,18 +12,16 @@ use lib.Dec.{T, eqb}
 use borrow.Author.Tests.{eq-eqb, ne_eqb}
 use Rattle.pages.specs.declared.Rect.{Rect}
 use Rattle.pages.specs.declared.Entry.{Entry}
-use Rattle.pages.specs.Lists.{one, sum, sum_below, concat_map, Every}
+use Rattle.pages.specs.Lists.{one, sum, sum_below, concat_map, Every, times}
 use Rattle.pages.specs.Rectangles.{valid, bounds}
 use Rattle.pages.specs.Layout.{Table, no_entry, no_page, page}
 use Rattle.pages.specs.Sound.{child_entries, is, parents, fewest}
-use Rattle.pages.proofs.Lists.{every-at, every_map, every_append, sum-at, sum_same, sum-le, sum-add, sum-cond}
+use Rattle.pages.proofs.Lists.{every-at, every_map, every_append, sum-at, sum_same, sum-le, sum-add, sum-cond, sum-concat, every_one}
 use Rattle.pages.proofs.Below.{below-same, below-add, below-const, sum-places, cond-le, cond-add, below-chosen, below_at}
 use Rattle.pages.proofs.Facts.{Facts}
 use Rattle.pages.proofs.Entries.{Fits, leaf-children, leaf-pieces, above-children, fits-above, root-free}
 use Rattle.pages.proofs.Walk.{Within, bounds-each}
 use Rattle.query.specs.Opening.{opened_under, opened_pages}
-use Rattle.query.specs.Calls.{times}
-use Rattle.query.proofs.Listed.{every-entry, sum-concat}
 use Rattle.query.proofs.Root.{opened-once}
 use Rattle.query.proofs.Tests.{Proper, proper, around}
 
@@ -96,7 +94,7 @@ module _ (t : Table) (F : Facts t) where
           arith,
           sum-concat g (λ e. cond (o e.rect) (opened_under o t.pages l e.r) []) (page t p).entries,
           sum_same (λ e. sum g (cond (o e.rect) (opened_under o t.pages l e.r) [])) (λ e. cond (o e.rect) (sum g (opened_under o t.pages l e.r)) 0) (page t p).entries
-              (every-entry _ (λ e. sum-cond g (o e.rect) (opened_under o t.pages l e.r)) (page t p).entries),
+              (every_one _ (λ e. sum-cond g (o e.rect) (opened_under o t.pages l e.r)) (page t p).entries),
         )
 
     -- an opened page is the first one, or a child that an opened page opens
@@ -184,4 +182,4 @@ module _ (t : Table) (F : Facts t) where
         small : (q : ℕ) → q < length t.pages → (c : ℕ) → times q (opened_pages o t) * onward (λ x. one (eqb x c)) q ≤ sum (is c) (child_entries (page t q))
         small q ql c =
             times-le (times q (opened_pages o t)) (onward (λ x. one (eqb x c)) q) (sum (is c) (child_entries (page t q))) (opened-once t F o q ql)
-            (sum-le (λ x. cond (o x.rect) (one (eqb x.r c)) 0) (is c) (child_entries (page t q)) (every-entry _ (λ x. cond-le (o x.rect) (is c x)) (child_entries (page t q))))
+            (sum-le (λ x. cond (o x.rect) (one (eqb x.r c)) 0) (is c) (child_entries (page t q)) (every_one _ (λ x. cond-le (o x.rect) (is c x)) (child_entries (page t q))))

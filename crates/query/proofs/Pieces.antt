@@ -20,7 +20,8 @@ use Rattle.pages.proofs.Facts.{Facts}
 use Rattle.pages.proofs.Entries.{leaf-pieces}
 use Rattle.pages.proofs.Below.{T-one}
 use Rattle.query.specs.Listing.{rising, admitted_as, listing}
-use Rattle.query.specs.Demand2.{PieceAt, In}
+use Rattle.pages.specs.Pieces.{PieceAt}
+use Rattle.query.specs.Demand2.{In}
 use Rattle.query.proofs.Members.{in-times, times-in, sum-some, rising-below, rising-order, rising-times}
 
 leaf-level : (g : Page) (i : ℕ) → i < length (piece_entries g) → g.level ≡ 0

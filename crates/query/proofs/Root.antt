@@ -9,19 +9,17 @@ use lib.Dec.{T, eqb}
 use Rattle.pages.specs.Under.{seen}
 use Rattle.pages.specs.declared.Rect.{Rect}
 use Rattle.pages.specs.Sizes.{TABLE_WORDS, PAGES}
-use Rattle.pages.specs.Lists.{one, sum}
+use Rattle.pages.specs.Lists.{one, sum, times}
 use Rattle.pages.specs.Layout.{Page, Table, page_at, page, table_in}
 use Rattle.pages.specs.Sound.{sound}
-use Rattle.pages.proofs.Lists.{sum-le, sum-length, sum-cond}
+use Rattle.pages.proofs.Lists.{sum-le, sum-length, sum-cond, sum-concat, every_one}
 use Rattle.pages.proofs.Below.{below-const, cond-le}
 use Rattle.pages.proofs.Facts.{Facts}
 use Rattle.pages.proofs.Whole.{sound-in}
 use Rattle.pages.proofs.Visit.{seen-root, seen-once}
 use Rattle.query.specs.Opening.{opened_under, opened_pages}
-use Rattle.query.specs.Calls.{times}
 use Rattle.query.specs.Steps.{SoundPage}
 use Rattle.query.proofs.Reading.{own-page}
-use Rattle.query.proofs.Listed.{every-entry, sum-concat}
 
 opened-seen : (o : Rect → Bool) (g : ℕ → ℕ) (ps : List Page) (l p : ℕ) → sum g (opened_under o ps l p) ≤ seen g ps l p
 unfolding opened_under seen
@@ -29,7 +27,7 @@ opened-seen o g ps zero p = omega arith
 opened-seen o g ps (suc l) p =
     let a = sum-concat g (λ e. cond (o e.rect) (opened_under o ps l e.r) []) (page_at ps p).entries in
     let b = sum-le (λ e. sum g (cond (o e.rect) (opened_under o ps l e.r) [])) (λ e. seen g ps l e.r) (page_at ps p).entries
-    (every-entry _ (λ e. omega (arith, sum-cond g (o e.rect) (opened_under o ps l e.r), cond-le (o e.rect) (sum g (opened_under o ps l e.r)), opened-seen o g ps l e.r)) (page_at ps p).entries) in
+    (every_one _ (λ e. omega (arith, sum-cond g (o e.rect) (opened_under o ps l e.r), cond-le (o e.rect) (sum g (opened_under o ps l e.r)), opened-seen o g ps l e.r)) (page_at ps p).entries) in
     omega (arith, a, b)
 
 module _ (t : Table) (F : Facts t) (o : Rect → Bool) where

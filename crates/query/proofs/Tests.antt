@@ -17,7 +17,7 @@ use Rattle.pages.proofs.Valid.{edges}
 use Rattle.pages.proofs.Walk.{Within}
 use Rattle.query.specs.Admission.{code_y, code_x, admits_rect, opens}
 use Rattle.query.specs.Demand2.{QuarterIn}
-use Rattle.query.specs.Steps.{Small, admits_by, opens_by}
+use Rattle.query.specs.Steps.{admits_by, opens_by}
 
 pub admits-same : (clauses : List ℕ) (q : Rect) → admits_by (row_sets clauses) q ≡ admits_rect clauses q
 unfolding admits_by admits_rect
@@ -32,16 +32,10 @@ pub record Proper (r : Rect) : Type 0 where
   pub on-x : r.x1 < r.x2
   pub on-y : r.y1 < r.y2
 
-valid-parts : (r : Rect) → T (valid r) → Proper r × Small r
-valid-parts r v =
-    let e = edges r v in
-    (record { on-x = e.on-x; on-y = e.on-y }, record { x-start = e.x-start; y-start = e.y-start; x-end = e.x-end; y-end = e.y-end })
-
 pub proper : (r : Rect) → T (valid r) → Proper r
-proper r v = (valid-parts r v).0
-
-pub small : (r : Rect) → T (valid r) → Small r
-small r v = (valid-parts r v).1
+proper r v =
+    let e = edges r v in
+    record { on-x = e.on-x; on-y = e.on-y }
 
 pub around : (r s : Rect) → Proper r → Within r s → Proper s
 around r s p w = omega arith

@@ -23,7 +23,8 @@ use Rattle.soundness.proofs.Answers.{refused-as, checked-passed}
 use Rattle.query.specs.declared.Answer.{Answer}
 use Rattle.query.specs.declared.Opened.{Opened}
 use Rattle.query.specs.Admission.{opens}
-use Rattle.query.specs.Calls.{sound_refusal, no_answer, no_opened, query_opened, query_sound, query_call, opened_sound, opened_call, times, OpenedWords}
+use Rattle.pages.specs.Lists.{times}
+use Rattle.query.specs.Calls.{sound_refusal, no_answer, no_opened, query_opened, query_sound, query_call, opened_sound, opened_call, OpenedWords}
 use Rattle.query.specs.Steps.{opened_listed}
 use Rattle.query.proofs.Root.{opened-few}
 use Rattle.query.proofs.Calls.{accepted}

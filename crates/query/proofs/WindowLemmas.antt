@@ -2,7 +2,7 @@
 use mathlib.Core.Path.{◌≡◌, refl, sym, ap₂, ◌∙◌}
 use mathlib.Core.Bool.{Bool, true, false, not, cond}
 use Rattle.pages.specs.declared.Rect.{Rect}
-use Rattle.query.specs.Steps.{Small}
+use Rattle.pages.specs.Rectangles.{Small}
 use Rattle.query.specs.Window.{beyond, decided, Decides}
 
 module _ (w : Rect) (whole : Bool) (test : Rect → Bool) (d : Decides w whole test) (p : Rect) (s : Small p) where

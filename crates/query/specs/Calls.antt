@@ -5,7 +5,7 @@ use Rattle.refusals.specs.Numbers.{number_of}
 use Rattle.relations.specs.Query.{refusal_of}
 use Rattle.pages.specs.declared.Rect.{Rect}
 use Rattle.pages.specs.Sizes.{TABLE_WORDS}
-use Rattle.pages.specs.Lists.{one, sum}
+use Rattle.pages.specs.Lists.{times}
 use Rattle.pages.specs.Rectangles.{valid}
 use Rattle.pages.specs.Refusals.{ACCEPTED, TABLE_TOO_SHORT, RECTANGLE_NOT_VALID, TABLE_NOT_SOUND, ANSWER_TOO_SHORT}
 use Rattle.pages.specs.Layout.{table_in}
@@ -87,10 +87,7 @@ opened_call w q clauses answer =
     cond (ltb (length w) TABLE_WORDS) (no_opened TABLE_TOO_SHORT)
     (cond (sound w) (opened_sound w q clauses answer) (no_opened TABLE_NOT_SOUND))
 
--- how often n stands in a list; two lists have the same numbers, each as often
-abbrev pub times : ℕ → List ℕ → ℕ
-times n xs = sum (λ x. one (eqb x n)) xs
-
+-- two lists have the same numbers, each as often
 abbrev pub Rearranged : List ℕ → List ℕ → Type 0
 Rearranged xs ys = (n : ℕ) → times n xs ≡ times n ys
 

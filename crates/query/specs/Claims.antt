@@ -2,7 +2,8 @@
 use Rattle.std.specs.Prelude.{ℕ, List}
 use Rattle.pages.specs.Lists.{Every}
 use Rattle.pages.specs.Layout.{page, table_in}
-use Rattle.query.specs.Steps.{SoundPage, Small}
+use Rattle.pages.specs.Rectangles.{Small}
+use Rattle.query.specs.Steps.{SoundPage}
 
 pub record Claims : Type 0 where
   -- "none exceeds 1,000,000": no edge of an entry does, on any page of a sound table

@@ -6,7 +6,8 @@ use Rattle.relations.specs.Query.{admitted_count}
 use Rattle.relations.specs.Nodes.{QuarterRect}
 use Rattle.pages.specs.declared.Rect.{Rect}
 use Rattle.pages.specs.Refusals.{ACCEPTED}
-use Rattle.pages.specs.Layout.{Table, no_entry, page, table_in}
+use Rattle.pages.specs.Pieces.{PieceAt}
+use Rattle.pages.specs.Layout.{no_entry, page, table_in}
 use Rattle.query.specs.declared.Answer.{Answer}
 use Rattle.query.specs.Admission.{admits_rect}
 use Rattle.query.specs.Calls.{query_listing, query_opened, query_call}
@@ -16,16 +17,6 @@ pub record In (c : ℕ) (xs : List ℕ) : Type 0 where
   pub place : ℕ
   pub inside : place < length xs
   pub holds : get_or xs place 0 ≡ c
-
--- c is a piece of the table and has the rectangle r
-pub record PieceAt (t : Table) (c : ℕ) (r : Rect) : Type 0 where
-  pub leaf : ℕ
-  pub place : ℕ
-  pub inside : leaf < length t.pages
-  pub level : (page t leaf).level ≡ 0
-  pub entry : place < length (page t leaf).entries
-  pub number : (get_or (page t leaf).entries place no_entry).r ≡ c
-  pub rectangle : (get_or (page t leaf).entries place no_entry).rect ≡ r
 
 -- the quarter-unit rule between a page's rectangle s and the reference q
 abbrev pub QuarterIn : List ℕ → Rect → Rect → Type 0

@@ -4,7 +4,7 @@ use Rattle.pages.specs.Lists.{concat_map}
 use Rattle.relations.specs.Steps.{page_test, rows_have}
 use Rattle.pages.specs.declared.Rect.{Rect}
 use Rattle.pages.specs.declared.Entry.{Entry}
-use Rattle.pages.specs.Sizes.{TABLE_WORDS, EDGE}
+use Rattle.pages.specs.Sizes.{TABLE_WORDS}
 use Rattle.pages.specs.Refusals.{ACCEPTED}
 use Rattle.pages.specs.Layout.{Table, page, table_in}
 use Rattle.pages.specs.Sound.{sound, piece_entries}
@@ -18,13 +18,6 @@ pub record SoundPage (w : List ℕ) (p l : ℕ) : Type 0 where
   pub holds : T (sound w)
   pub inside : p < length (table_in w).pages
   pub level : (page (table_in w) p).level ≡ l
-
--- "none exceeds 1,000,000"
-pub record Small (r : Rect) : Type 0 where
-  pub x-start : r.x1 ≤ EDGE
-  pub y-start : r.y1 ≤ EDGE
-  pub x-end : r.x2 ≤ EDGE
-  pub y-end : r.y2 ≤ EDGE
 
 -- the leaf test by row sets, the page test by joined rows
 unfoldable pub admits_by : List ℕ → Rect → Rect → Bool

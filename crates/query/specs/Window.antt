@@ -4,8 +4,7 @@ use Rattle.relations.specs.declared.Reach.{Reach}
 use Rattle.relations.specs.declared.Reach.TheVariants.{Inner, Near, Anywhere}
 use Rattle.pages.specs.declared.Rect.{Rect}
 use Rattle.pages.specs.Sizes.{EDGE}
-use Rattle.pages.specs.Rectangles.{rect_of}
-use Rattle.query.specs.Steps.{Small}
+use Rattle.pages.specs.Rectangles.{rect_of, Small}
 
 -- a paired word has an x in its lower half and a y in its upper half
 abbrev pub HALF : ℕ

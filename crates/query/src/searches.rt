@@ -2,7 +2,8 @@
 ghost use Rattle.std.specs.Prelude.{◌≡◌};
 ghost use Rattle.relations.specs.Steps.{joined_of};
 ghost use Rattle.query.specs.Admission.{code_y, code_x};
-ghost use Rattle.query.specs.Steps.{Small, admits_by, opens_by};
+ghost use Rattle.pages.specs.Rectangles.{Small};
+ghost use Rattle.query.specs.Steps.{admits_by, opens_by};
 ghost use Rattle.query.specs.Window.{Decides};
 
 use crate::window::Window;

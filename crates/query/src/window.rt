@@ -1,7 +1,7 @@
 // The window of a search: beyond it no rectangle passes a test.
 ghost use Rattle.std.specs.Prelude.{◌≡◌};
 ghost use Rattle.pages.specs.declared.Rect.{Rect};
-ghost use Rattle.query.specs.Steps.{Small};
+ghost use Rattle.pages.specs.Rectangles.{Small};
 ghost use Rattle.query.specs.Window.{paired_of, over, window_in, Roomy, window_for, beyond};
 
 use pages::{Rect, ValidRect};
@@ -32,7 +32,7 @@ fn is_over(word: u64) -> bool
 
 // What is searched: the reference drawn in by one unit where both codes are in 3 to 11, the reference itself where they are in 3
 // to 12, else all that pieces can cover.
-#[tactic(auto, using(crate::proofs::Tests::proper, crate::proofs::Tests::small), unfolding(crate::specs::Window::window_for))]
+#[tactic(auto, using(crate::proofs::Tests::proper, pages::proofs::Valid::small), unfolding(crate::specs::Window::window_for))]
 fn window_for(reference: ValidRect, reach: Reach) -> Rect
     ensures window { result ≡ window_for reference.rect reach }
     ensures small { Small result }

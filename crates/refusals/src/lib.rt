@@ -23,6 +23,8 @@ pub enum Refusal {
     AnswerTooShort = 8,
     PointCount = 10,
     CoordinateTooLarge = 11,
+    OutOfRange = 13,
+    NoPieces = 14,
 }
 
 impl Refusal {
@@ -47,6 +49,8 @@ impl fmt::Display for Refusal {
             Refusal::AnswerTooShort => "the answer slice is too short",
             Refusal::PointCount => "an outline has 3 to 64 points of two words each",
             Refusal::CoordinateTooLarge => "a coordinate is above 1,000,000",
+            Refusal::OutOfRange => "the point or the allowance is out of range",
+            Refusal::NoPieces => "the table has no pieces",
         })
     }
 }

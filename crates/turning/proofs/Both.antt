@@ -23,7 +23,8 @@ use Rattle.pages.proofs.Counting.{count-few}
 use Rattle.pages.proofs.Whole.{sound-in}
 use Rattle.query.specs.Admission.{code_y, code_x, admits_rect}
 use Rattle.query.specs.Calls.{query_listing, query_call}
-use Rattle.query.specs.Demand2.{In, PieceAt}
+use Rattle.pages.specs.Pieces.{PieceAt}
+use Rattle.query.specs.Demand2.{In}
 use Rattle.query.proofs.Calls.{accepts}
 use Rattle.query.proofs.Accepted.{Good, listed, answer-is}
 use Rattle.query.proofs.Pieces.{one_rect}

@@ -6,7 +6,8 @@ use lib.ListN.{length, length-append}
 use Rattle.pages.specs.Lists.{concat_map, Every}
 use Rattle.pages.specs.Left.{left}
 use Rattle.query.specs.Opening.{opened_under}
-use Rattle.query.specs.Steps.{Small, SoundPage}
+use Rattle.pages.specs.Rectangles.{Small}
+use Rattle.query.specs.Steps.{SoundPage}
 use Rattle.query.specs.Search.{opens_in, table_of}
 use Rattle.query.proofs.Edges.{child-entries}
 use Rattle.query.proofs.Walking.{open_each, opened_one, opened-leaf, opened-above, open-step, shut-step, visit_one, visit-first, visit_none, VisitsAll-append}

@@ -3,7 +3,8 @@ use mathlib.Core.Path.{◌≡◌}
 use lib.ListN.{length}
 use Rattle.pages.specs.Lists.{concat_map, Every}
 use Rattle.pages.specs.Left.{left}
-use Rattle.query.specs.Steps.{Small, SoundPage}
+use Rattle.pages.specs.Rectangles.{Small}
+use Rattle.query.specs.Steps.{SoundPage}
 use Rattle.query.specs.Search.{opens_in, table_of, opened_at}
 use Rattle.query.specs.Visits.{VisitsAll}
 use Rattle.query.proofs.Walking.{open_each}
