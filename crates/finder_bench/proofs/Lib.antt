@@ -1,2 +1,2 @@
--- The laws that the proof of `bench_queries` cites.
+-- The laws that the proofs of `bench_queries` and `bench_nearest` cite.
 pub mod Asked

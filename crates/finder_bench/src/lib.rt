@@ -3,8 +3,9 @@
 
 ghost use Rattle.std.specs.Prelude.{◌≡◌};
 ghost use Rattle.history.specs.Replay.{replay_call};
-ghost use Rattle.finder_bench.specs.Asked.{asked_all};
+ghost use Rattle.finder_bench.specs.Asked.{asked_all, nearest_all};
 
+use nearest::NearestAnswer;
 use pages::Rect;
 use refusals::refusal_of;
 use soundness::SoundTable;
@@ -30,6 +31,29 @@ pub extern "C" fn bench_queries(
         }
     }
     hits
+}
+
+// Asks for the nearest piece of each point, each as a call of its own would, and adds up what the calls answer, so that no part of a
+// call can be left out.
+#[unsafe(no_mangle)]
+pub extern "C" fn bench_nearest(table: &[u32], points: &[u32], allowance: u32) -> u64
+    ensures { result ≡ nearest_all table.now points.now allowance }
+{
+    let Ok(table) = SoundTable::read(table) else {
+        return 0;
+    };
+    let (points, _) = points.as_chunks::<2>();
+    let mut total: u64 = 0;
+    for words in points {
+        let [x, y] = *words;
+        let found = NearestAnswer::from(nearest::nearest_sound(table, x, y, allowance));
+        total = total
+            .wrapping_add(u64::from(found.number))
+            .wrapping_add(u64::from(found.opened))
+            .wrapping_add(found.distance)
+            .wrapping_add(found.left_distance);
+    }
+    total
 }
 
 #[unsafe(no_mangle)]

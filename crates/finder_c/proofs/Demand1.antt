@@ -30,7 +30,10 @@ use Rattle.placing.specs.Calls.{place_refusal, placed_words, place_sound, place_
 use Rattle.query.specs.declared.Answer.{Answer}
 use Rattle.query.specs.declared.Opened.{Opened}
 use Rattle.query.specs.Calls.{no_answer, no_opened, sound_refusal, query_opened, query_answer, query_sound, query_call, opened_sound, opened_call, OpenedWords}
-use Rattle.finder_c.specs.Demand1.{first_of, Numbered, empty_order, check_order, place_order, query_order, admitted_order, area_order, point_order, shares_order, Demand1}
+use Rattle.nearest.specs.declared.NearestAnswer.{NearestAnswer}
+use Rattle.nearest.specs.Search.{opened_on}
+use Rattle.nearest.specs.Calls.{found_on, answer_for, no_nearest, out_of_range, nearest_sound, nearest_call}
+use Rattle.finder_c.specs.Demand1.{first_of, Numbered, empty_order, check_order, place_order, query_order, admitted_order, area_order, point_order, shares_order, nearest_order, Demand1}
 
 -- of conditions that have one of the numbers
 first-numbered : (cs : List (ℕ × Bool)) → Every (λ c. Numbered c.0) cs → Numbered (first_of cs)
@@ -248,6 +251,38 @@ module _ (w : List ℕ) where
     unfolding place_call place_sound place_refusal placing
     place-leaves = place_same w (placed_words w n r) (ltb (length w) TABLE_WORDS) (sound w) (valid r) (leb PIECES n) (eqb (stored (table_in w) n) 0)
 
+module _ (z : NearestAnswer) where
+  nearing : Bool → Bool → Bool → Bool → NearestAnswer
+  nearing a b c d = cond a (no_nearest 1) (cond b (cond c (no_nearest 13) (cond d (no_nearest 14) z)) (no_nearest 6))
+
+  nearest-order : z.refusal ≡ 0 → (a b c d : Bool) → (nearing a b c d).refusal ≡ cond a 1 (cond (not b) 6 (cond c 13 (cond d 14 0)))
+  unfolding nearing
+  nearest-order e true b c d = refl
+  nearest-order e false false c d = refl
+  nearest-order e false true true d = refl
+  nearest-order e false true false true = refl
+  nearest-order e false true false false = e
+
+  nearest-none : z.refusal ≡ 0 → (a b c d : Bool) → (nearing a b c d).refusal ≢ 0 → nearing a b c d ≡ no_nearest (nearing a b c d).refusal
+  unfolding nearing
+  nearest-none e true b c d n = refl
+  nearest-none e false false c d n = refl
+  nearest-none e false true true d n = refl
+  nearest-none e false true false true n = refl
+  nearest-none e false true false false n = absurd (n e)
+
+module _ (w : List ℕ) (x y allowance : ℕ) where
+  abbrev accepted : NearestAnswer
+  accepted = answer_for (found_on x y (table_in w) (opened_on x y (table_in w) allowance))
+
+  nearest-first : (nearest_call w x y allowance).refusal ≡ first_of (nearest_order w x y allowance)
+  unfolding nearest_call nearest_sound nearing
+  nearest-first = nearest-order accepted refl (ltb (length w) TABLE_WORDS) (sound w) (out_of_range x y allowance) (eqb (table_in w).count 0)
+
+  nearest-zero : (nearest_call w x y allowance).refusal ≢ 0 → nearest_call w x y allowance ≡ no_nearest (nearest_call w x y allowance).refusal
+  unfolding nearest_call nearest_sound nearing
+  nearest-zero = nearest-none accepted refl (ltb (length w) TABLE_WORDS) (sound w) (out_of_range x y allowance) (eqb (table_in w).count 0)
+
 -- a refusal of opened pages leaves the words: all of them come after none
 opened-same : (w : List ℕ) (q : Rect) (clauses before after : List ℕ) (r : Opened) → OpenedWords w q clauses before after r
     → r.refusal ≢ 0 → (r.count ≡ 0) × (after ≡ before)
@@ -269,6 +304,7 @@ demand1 = record {
   area = area-first;
   point = point-first;
   shares = shares-first;
+  nearest = nearest-first;
   numbers = λ w n r clauses o needed. (
     first-numbered (empty_order w) (refl, tt),
     first-numbered (check_order w) (refl, (refl, tt)),
@@ -278,6 +314,7 @@ demand1 = record {
   );
   outline-numbers = λ o x y. (first-numbered (area_order o) (refl, (refl, tt)), first-numbered (point_order o x y) (refl, (refl, tt)));
   shares-numbers = λ piece reference. first-numbered (shares_order piece reference) (refl, (refl, tt));
+  nearest-numbers = λ w x y allowance. first-numbered (nearest_order w x y allowance) (refl, (refl, (refl, (refl, tt))));
   empty-leaves = empty-leaves;
   check-counts = refused_none;
   place-leaves = place-leaves;
@@ -288,4 +325,5 @@ demand1 = record {
   area-zero = area-zero;
   point-zero = point-zero;
   shares-zero = shares-zero;
+  nearest-zero = nearest-zero;
 }

@@ -1,7 +1,7 @@
 -- Demand 1: "every call .. either does its work or refuses with one of the numbers 1 to 8 of document 01. A refusal reports zero
--- counts and changes no word of any slice." "Demand 1's numbers grow by each New one" of the requests: so far 10 and 11, of 2.10.
--- That every call ends, on slices of any length with any words, is what a proved crate says.
-use Rattle.std.specs.Prelude.{ℕ, ◌≡◌, ◌≢◌, Bool, true, false, not, cond, ◌||◌, List, [], ◌∷◌, length, replicate, leb, ltb, eqb, pos}
+-- counts and changes no word of any slice." "Demand 1's numbers grow by each New one" of the requests: so far 10 and 11, of 2.10, and
+-- 13 and 14, of 2.12. That every call ends, on slices of any length with any words, is what a proved crate says.
+use Rattle.std.specs.Prelude.{ℕ, ◌≡◌, ◌≢◌, Bool, true, not, cond, ◌||◌, List, [], ◌∷◌, length, replicate, leb, ltb, eqb, pos}
 use Rattle.outline.specs.Refusals.{wrong_count, within}
 use Rattle.outline.specs.Calls.{area_call, point_call}
 use Rattle.tiles.specs.Tiles.{TILES}
@@ -10,6 +10,7 @@ use Rattle.relations.specs.Axis.{CODES}
 use Rattle.relations.specs.Query.{CLAUSES, some_bad, admitted_of}
 use Rattle.pages.specs.declared.Rect.{Rect}
 use Rattle.pages.specs.Sizes.{PIECES, TABLE_WORDS}
+use Rattle.pages.specs.Lists.{is_among}
 use Rattle.pages.specs.Rectangles.{valid}
 use Rattle.pages.specs.Layout.{table_in}
 use Rattle.pages.specs.Sound.{stored, sound}
@@ -18,6 +19,7 @@ use Rattle.soundness.specs.Calls.{check_call}
 use Rattle.placing.specs.Calls.{place_call}
 use Rattle.query.specs.declared.Opened.{Opened}
 use Rattle.query.specs.Calls.{query_call, OpenedWords}
+use Rattle.nearest.specs.Calls.{no_nearest, out_of_range, nearest_call}
 
 -- "the first whose condition holds is returned, and none without its condition"; "Zero means accepted"
 abbrev pub first_of : List (ℕ × Bool) → ℕ
@@ -26,11 +28,7 @@ first_of (c ∷ cs) = cond c.1 c.0 (first_of cs)
 
 -- the numbers of the refusals
 abbrev pub NUMBERS : List ℕ
-NUMBERS = 1 ∷ 2 ∷ 3 ∷ 4 ∷ 5 ∷ 6 ∷ 7 ∷ 8 ∷ 10 ∷ 11 ∷ []
-
-abbrev pub is_among : ℕ → List ℕ → Bool
-is_among n [] = false
-is_among n (m ∷ ms) = eqb n m || is_among n ms
+NUMBERS = 1 ∷ 2 ∷ 3 ∷ 4 ∷ 5 ∷ 6 ∷ 7 ∷ 8 ∷ 10 ∷ 11 ∷ 13 ∷ 14 ∷ []
 
 -- accepted, or refused with one of the numbers
 abbrev pub Numbered : ℕ → Type 0
@@ -68,6 +66,13 @@ point_count outline = (10, wrong_count (length outline))
 abbrev pub too_far : List ℕ → ℕ × Bool
 too_far coordinates = (11, not (within coordinates))
 
+-- those of request 2.12: "point or allowance out of range", "table without pieces"
+abbrev pub not_in_range : ℕ → ℕ → ℕ → ℕ × Bool
+not_in_range x y allowance = (13, out_of_range x y allowance)
+
+abbrev pub without_pieces : List ℕ → ℕ × Bool
+without_pieces w = (14, eqb (table_in w).count 0)
+
 -- "empty 1; check 1, 6 ..; place 1, 6, 2, 3, 7; query and opened pages 1, 6, 2, 4, 5, 8; admitted set 4, 5"
 abbrev pub empty_order : List ℕ → List (ℕ × Bool)
 empty_order w = table_short w ∷ []
@@ -96,6 +101,10 @@ point_order outline x y = point_count outline ∷ too_far (x ∷ (y ∷ outline)
 abbrev pub shares_order : Rect → Rect → List (ℕ × Bool)
 shares_order piece reference = not_valid piece ∷ not_valid reference ∷ []
 
+-- "Order is 1, 6, 13, 14"
+abbrev pub nearest_order : List ℕ → ℕ → ℕ → ℕ → List (ℕ × Bool)
+nearest_order w x y allowance = table_short w ∷ not_sound w ∷ not_in_range x y allowance ∷ without_pieces w ∷ []
+
 pub record Demand1 : Type 0 where
   -- the refusal of each call, by its conditions in order
   pub empty : (w : List ℕ) → (empty_call w).0 ≡ first_of (empty_order w)
@@ -110,12 +119,14 @@ pub record Demand1 : Type 0 where
   pub area : (outline : List ℕ) → (area_call outline).refusal ≡ first_of (area_order outline)
   pub point : (outline : List ℕ) (x y : ℕ) → (point_call outline x y).refusal ≡ first_of (point_order outline x y)
   pub shares : (piece reference : Rect) → (shares_call piece reference).refusal ≡ first_of (shares_order piece reference)
+  pub nearest : (w : List ℕ) (x y allowance : ℕ) → (nearest_call w x y allowance).refusal ≡ first_of (nearest_order w x y allowance)
   -- "one of the numbers"
   pub numbers : (w : List ℕ) (n : ℕ) (r : Rect) (clauses answer : List ℕ) (needed : ℕ)
       → Numbered (first_of (empty_order w)) × Numbered (first_of (check_order w)) × Numbered (first_of (place_order w n r))
       × Numbered (first_of (query_order w r clauses answer needed)) × Numbered (first_of (admitted_order clauses))
   pub outline-numbers : (outline : List ℕ) (x y : ℕ) → Numbered (first_of (area_order outline)) × Numbered (first_of (point_order outline x y))
   pub shares-numbers : (piece reference : Rect) → Numbered (first_of (shares_order piece reference))
+  pub nearest-numbers : (w : List ℕ) (x y allowance : ℕ) → Numbered (first_of (nearest_order w x y allowance))
   -- "A refusal reports zero counts and changes no word of any slice"
   pub empty-leaves : (w : List ℕ) → (empty_call w).0 ≢ 0 → (empty_call w).1 ≡ w
   pub check-counts : (w : List ℕ) → (check_call w).refusal ≢ 0 → (check_call w).pieces ≡ 0
@@ -134,3 +145,6 @@ pub record Demand1 : Type 0 where
   pub shares-zero : (piece reference : Rect) → (shares_call piece reference).refusal ≢ 0
       → ((shares_call piece reference).areas ≡ replicate TILES 0) × ((shares_call piece reference).thousandths ≡ replicate TILES 0)
       × ((shares_call piece reference).remainders ≡ replicate TILES 0)
+  -- neither piece nor page
+  pub nearest-zero : (w : List ℕ) (x y allowance : ℕ) → (nearest_call w x y allowance).refusal ≢ 0
+      → nearest_call w x y allowance ≡ no_nearest (nearest_call w x y allowance).refusal

@@ -11,7 +11,9 @@ ghost use Rattle.turning.specs.Turn.{turned_rect, turn_clause};
 ghost use Rattle.soundness.specs.Calls.{check_call};
 ghost use Rattle.placing.specs.Calls.{place_call};
 ghost use Rattle.query.specs.Calls.{query_call, OpenedWords};
+ghost use Rattle.nearest.specs.Calls.{nearest_call};
 
+use nearest::NearestAnswer;
 use outline::{Area, Located};
 use pages::{Piece, Rect};
 use query::{Answer, Opened};
@@ -131,4 +133,16 @@ pub extern "C" fn finder_turned_clause(clause: u64) -> u64
     ensures { result ≡ turn_clause clause }
 {
     turning::turned_clause(clause)
+}
+
+#[unsafe(no_mangle)]
+pub extern "C" fn finder_nearest_piece(
+    table: &[u32],
+    x: u32,
+    y: u32,
+    allowance: u32,
+) -> NearestAnswer
+    ensures { result ≡ nearest_call table.now x y allowance }
+{
+    NearestAnswer::from(nearest::nearest_piece(table, x, y, allowance))
 }

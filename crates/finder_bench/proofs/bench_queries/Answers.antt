@@ -1,8 +1,8 @@
 -- The table is refused, or it is sound and stays as it is.
-use Rattle.std.proofs.Common.{◌≡◌, ◌+◌, ◌/◌, ◌%◌, ◌^◌, [], length, get_or, refl, ap, ◌∙◌, arith, subst}
+use Rattle.std.proofs.Common.{◌≡◌, ◌+◌, ◌/◌, ◌%◌, ◌^◌, length, refl, ◌∙◌, arith, subst}
 use Rattle.query.specs.Calls.{answer_of}
 use Rattle.finder_bench.specs.Asked.{RECT_WORDS, asked, asked_all}
-use Rattle.finder_bench.proofs.Asked.{rect_in, reference-is, all-refused, one_more, all_asked}
+use Rattle.finder_bench.proofs.Asked.{reference-is, all-refused, one_more, all_asked}
 use Rattle.finder_bench.proofs.bench_queries.Goals as goal
 use Rattle.finder_bench.proofs.bench_queries.Goals.{in-Ok-query_sound, in_default-query_sound}
 
@@ -20,7 +20,7 @@ loop-words-preserved c =
     let l = c.loop-words in
     let table = c.in-Ok.table in
     let words = c.args.references.now in
-    let at = c.from.ensures ∙ ap (λ xs. rect_in (get_or xs l.words-index [])) c.as_chunks.ensures.front ∙ reference-is words (length words / RECT_WORDS) l.words-index (omega arith) in
+    let at = c.from.ensures ∙ reference-is (length words / RECT_WORDS) words _ c.as_chunks.ensures.front l.words-index (omega arith) in
     let more : c.match-query_sound.hits ≡ (l.hits + (answer_of c.query_sound.result).hits) % 2 ^ 64 =
     elim c.match-query_sound.branch [
       | in-Ok-query_sound w ↦ w.hits-is ∙ rw (w.from-hits.ensures, w.in-Ok-query_sound.is)
