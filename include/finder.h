@@ -1,14 +1,15 @@
 /*
- * The piece finder: page tables, spatial relations, outlines, shares and turned
- * lays.
+ * The piece finder: page tables, spatial relations, nearest pieces, outlines,
+ * shares and turned lays.
  *
  * A table of up to 1,024 pieces is a slice of 32-bit words that the caller
  * owns. Pieces are placed in it; a query writes the numbers of the pieces whose
- * rectangle stands to a reference rectangle as the clauses say. An outline is a
- * slice of points and needs no table: two calls give its area and say where a
- * point lies by it. Shares need no table either: one call says how much of a
- * piece lies in each of the nine tiles about a reference. Nor does turning: two
- * calls give a rectangle and a clause after a quarter turn of the cloth.
+ * rectangle stands to a reference rectangle as the clauses say; another call
+ * finds the piece nearest to a point. An outline is a slice of points and needs
+ * no table: two calls give its area and say where a point lies by it. Shares
+ * need no table either: one call says how much of a piece lies in each of the
+ * nine tiles about a reference. Nor does turning: two calls give a rectangle
+ * and a clause after a quarter turn of the cloth.
  *
  * What is lent. A pointer and the length after it, in elements, lend a slice
  * for the time of the call; nothing of it is kept afterwards. The pointer is
@@ -21,8 +22,8 @@
  * Within that, anything may be passed: slices of any length with any words in
  * them, and any numbers. Every call comes to an end and either does its work or
  * refuses with one of the numbers below. A refusal reports zero counts (and
- * empty rows, a zero area, no place, zero shares) and changes no word of any
- * slice.
+ * empty rows, a zero area, no place, zero shares, no piece) and changes no word
+ * of any slice.
  */
 #ifndef FINDER_H
 #define FINDER_H
@@ -45,7 +46,8 @@ extern "C" {
 #define FINDER_PIECES 1024
 
 /* Pages of a table. So many answer words always suffice for
-   finder_opened_pages. */
+   finder_opened_pages, and it is the largest allowance of
+   finder_nearest_piece. */
 #define FINDER_PAGES 341
 
 /* The largest number in a valid rectangle, in tenths of a millimetre, and the
@@ -97,6 +99,11 @@ extern "C" {
 #define FINDER_POINT_COUNT 10
 /* A coordinate of the outline or of the point is above FINDER_EDGE. */
 #define FINDER_COORDINATE_TOO_LARGE 11
+/* The point or the allowance of finder_nearest_piece is out of range: x or y is
+   above FINDER_EDGE, or the allowance is 0 or above FINDER_PAGES. */
+#define FINDER_OUT_OF_RANGE 13
+/* The table has no pieces. */
+#define FINDER_NO_PIECES 14
 
 /* Relations, and clauses made of them.
 
@@ -204,6 +211,19 @@ typedef struct {
 } finder_shares;
 
 typedef struct {
+    uint32_t refusal;
+    uint32_t found;         /* 1 where there is a piece, else 0 */
+    uint32_t number;        /* its number; 0 where there is none */
+    uint32_t opened;        /* how many pages were opened */
+    uint32_t left;          /* 1 where a page is left that could have been
+                               opened next, else 0 */
+    uint64_t distance;      /* the piece's squared distance; 0 where there is
+                               none */
+    uint64_t left_distance; /* the least squared distance of the pages left; 0
+                               where there are none */
+} finder_nearest;
+
+typedef struct {
     uint32_t x1, y1; /* the south-west corner */
     uint32_t x2, y2; /* the north-east corner */
 } finder_rect;
@@ -240,6 +260,27 @@ finder_opened finder_opened_pages(const uint32_t *table, size_t table_len,
                                   uint32_t x2, uint32_t y2,
                                   const uint64_t *clauses, size_t clause_count,
                                   uint16_t *answer, size_t answer_len);
+
+/* Finds the piece nearest to the point (x, y), and opens at least one page and
+   no more than the allowance. The root is opened first; then, of the pages not
+   yet opened whose parent has been, always the nearest, of those as near the one
+   with the lowest number, until the allowance is spent, or there is a piece and
+   no such page is nearer than it. The piece is the nearest one in the opened
+   leaves, of those as near the one with the lowest number. A distance is that to
+   the piece's rectangle, or to the smallest one round all that is under the
+   page, squared, in squares of a tenth of a millimetre; it is 0 in the rectangle
+   and on its edge.
+
+   Look at found and left first: what is absent has a distance of 0 that says
+   nothing. One of the two is there. No piece of the table is nearer than the
+   smaller of distance and left_distance, or than the only one that is there. So
+   where found is 1, and left is 0 or left_distance is not below distance, no
+   piece is nearer than the one returned; a page left may hold one as near with a
+   lower number. With an allowance of FINDER_PAGES that is always so. A larger
+   allowance never gives a farther piece. Refuses 1, 6, 13, 14. */
+finder_nearest finder_nearest_piece(const uint32_t *table, size_t table_len,
+                                    uint32_t x, uint32_t y,
+                                    uint32_t allowance);
 
 /* Gives the configurations that the clauses admit. Refuses 4, 5. */
 finder_admitted finder_admitted_set(const uint64_t *clauses,
