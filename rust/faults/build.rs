@@ -8,7 +8,7 @@ include!("list.rs");
 
 /// The files of the model that state the papers' calls. Each leans only on
 /// files before it.
-const FILES: [&str; 15] = [
+const FILES: [&str; 16] = [
     "sizes",
     "refusals",
     "rectangles",
@@ -24,6 +24,7 @@ const FILES: [&str; 15] = [
     "outlines",
     "tiles",
     "turning",
+    "nearest",
 ];
 
 fn main() {

@@ -1,5 +1,6 @@
 //! The calls of the papers, as anything that offers them.
 
+use model::nearest::Nearest;
 use model::tiles::Shares;
 use model::Rect;
 
@@ -53,6 +54,10 @@ pub trait Calls {
 
     /// Returns the clause after a quarter turn.
     fn turned_clause(&self, clause: u64) -> u64;
+
+    /// Returns the refusal, the piece's number and squared distance, the opened
+    /// pages and the squared distance of what is left.
+    fn nearest_piece(&self, table: &[u32], x: u32, y: u32, allowance: u32) -> Nearest;
 }
 
 /// The model itself.
@@ -117,5 +122,9 @@ impl Calls for Model {
 
     fn turned_clause(&self, clause: u64) -> u64 {
         model::turned_clause(clause)
+    }
+
+    fn nearest_piece(&self, table: &[u32], x: u32, y: u32, allowance: u32) -> Nearest {
+        model::nearest_piece(table, x, y, allowance)
     }
 }

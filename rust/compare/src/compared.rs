@@ -2,6 +2,7 @@
 
 use crate::lent::Lent;
 use crate::Calls;
+use model::nearest::Nearest;
 use model::sizes::POINTS;
 use model::tiles::Shares;
 use model::{Rect, PIECES};
@@ -212,6 +213,22 @@ impl<'a> Compared<'a> {
         let ours = model::turned_clause(clause);
         let theirs = self.other.turned_clause(clause);
         self.same_return(Bits(ours), Bits(theirs), &what)?;
+        Ok(ours)
+    }
+
+    pub fn nearest_piece(
+        &mut self,
+        table: &[u32],
+        x: u32,
+        y: u32,
+        allowance: u32,
+    ) -> Outcome<Nearest> {
+        let what = || format!("piece nearest to ({x}, {y}), allowance {allowance}");
+        let lent = self.lent_words(table);
+        let ours = model::nearest_piece(table, x, y, allowance);
+        let theirs = self.other.nearest_piece(lent.slice(), x, y, allowance);
+        self.same_return(ours, theirs, &what)?;
+        self.same_words(table, &lent, &what)?;
         Ok(ours)
     }
 

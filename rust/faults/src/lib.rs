@@ -7,6 +7,7 @@
 #![forbid(unsafe_code)]
 
 use compare::Calls;
+use model::nearest::Nearest;
 use model::tiles::Shares;
 use model::Rect;
 
@@ -82,6 +83,10 @@ macro_rules! calls {
 
             fn turned_clause(&self, clause: u64) -> u64 {
                 $copy::turning::turned_clause(clause)
+            }
+
+            fn nearest_piece(&self, table: &[u32], x: u32, y: u32, allowance: u32) -> Nearest {
+                $copy::nearest::nearest_piece(table, x, y, allowance)
             }
         }
 

@@ -68,6 +68,29 @@ pub struct Shares {
     pub remainders: [u64; TILES],
 }
 
+/// A piece, and how far it is from the point.
+#[derive(Clone, Copy, Debug, PartialEq, Eq, Hash)]
+pub struct NearPiece {
+    /// Its number.
+    pub number: u32,
+    /// Its squared distance: 0 where the point is inside it or on its edge, else
+    /// the squares of the gaps in x and in y, added.
+    pub distance: u64,
+}
+
+/// What [`nearest_piece`] finds: a piece, or a page that is left, or both.
+#[derive(Clone, Copy, Debug, PartialEq, Eq, Hash)]
+pub struct Nearest {
+    /// The nearest piece of the opened leaves, the lowest number among those as
+    /// near; nothing when no leaf was opened.
+    pub piece: Option<NearPiece>,
+    /// How many pages were opened: at least 1, and no more than the allowance.
+    pub opened: u32,
+    /// The least squared distance of a page that could have been opened next;
+    /// nothing when all were opened.
+    pub left: Option<u64>,
+}
+
 /// Zero is accepted; every other number is one of the refusals.
 fn accepted(number: u32) -> Result<(), Refusal> {
     match (number, Refusal::from_number(number)) {
@@ -343,4 +366,66 @@ pub fn turned_rect(rect: Rect) -> Rect {
 /// ```
 pub fn turned_clause(clause: u64) -> u64 {
     raw::turned_clause(clause)
+}
+
+/// The piece nearest to the point (x, y), with at most `allowance` pages opened,
+/// 1 to 341 ([`PAGES`](crate::PAGES)). From the root on, the nearest page that
+/// can be opened is opened next, of those as near the one with the lower number,
+/// until the allowance is spent or none is nearer than the piece.
+///
+/// No piece of the table is nearer than the smaller of the two distances, or
+/// than the only one that is there. So a piece no farther than what is left is
+/// the nearest of all, and with an allowance of 341 it always is.
+///
+/// ```
+/// use finder::{nearest_piece, NearPiece, Nearest, Rect, Refusal, PAGES};
+/// let mut table = vec![0; finder::TABLE_WORDS];
+/// finder::empty(&mut table)?;
+/// let of_none = nearest_piece(&table, 37, 2, PAGES as u32);
+/// assert_eq!(of_none, Err(Refusal::NoPieces));
+/// let pieces: Vec<Rect> = (0..9).map(|c| Rect::new(10 * c, 0, 10 * c + 5, 5)).collect();
+/// for (number, &piece) in (0..).zip(&pieces) {
+///     finder::place(&mut table, number, piece)?;
+/// }
+///
+/// // The root alone: a page 2 units away is left, so no piece is nearer.
+/// let nearest = nearest_piece(&table, 37, 2, 1)?;
+/// assert_eq!(nearest, Nearest { piece: None, opened: 1, left: Some(4) });
+/// // One leaf more: piece 3, as near; the other leaf is 3 units away.
+/// let nearest = nearest_piece(&table, 37, 2, 2)?;
+/// let piece = NearPiece { number: 3, distance: 4 };
+/// assert_eq!(nearest, Nearest { piece: Some(piece), opened: 2, left: Some(9) });
+///
+/// // With 341 pages no piece of the table is nearer, whatever the point.
+/// for (x, y) in [(0, 0), (38, 9), (44, 2), (1_000_000, 500)] {
+///     let gap = |at: u32, low: u32, high: u32| u64::from(at.clamp(low, high).abs_diff(at));
+///     let far = |p: &Rect| gap(x, p.x1, p.x2).pow(2) + gap(y, p.y1, p.y2).pow(2);
+///     let nearest = nearest_piece(&table, x, y, PAGES as u32)?;
+///     let least = pieces.iter().map(far).min();
+///     assert_eq!(nearest.piece.map(|piece| piece.distance), least);
+/// }
+/// assert_eq!(nearest_piece(&table, 37, 2, 0), Err(Refusal::OutOfRange));
+/// # Ok::<(), Refusal>(())
+/// ```
+pub fn nearest_piece(table: &[u32], x: u32, y: u32, allowance: u32) -> Result<Nearest, Refusal> {
+    let nearest = raw::nearest_piece(table, x, y, allowance);
+    accepted(nearest.refusal)?;
+    let piece = NearPiece {
+        number: nearest.number,
+        distance: nearest.distance,
+    };
+    Ok(Nearest {
+        piece: is_present(nearest.found).then_some(piece),
+        opened: nearest.opened,
+        left: is_present(nearest.left).then_some(nearest.left_distance),
+    })
+}
+
+/// 1 where something is, 0 where it is absent.
+fn is_present(number: u32) -> bool {
+    match number {
+        0 => false,
+        1 => true,
+        _ => panic!("the finder returned {number}, which is neither present nor absent"),
+    }
 }

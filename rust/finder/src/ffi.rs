@@ -84,6 +84,26 @@ pub struct TileShares {
     pub remainders: [u64; 9],
 }
 
+/// What `finder_nearest_piece` returns: in C, `finder_nearest`.
+#[repr(C)]
+#[derive(Clone, Copy, Debug, PartialEq, Eq)]
+pub struct NearestFound {
+    /// Zero, or the number of the refusal.
+    pub refusal: u32,
+    /// 1 where there is a piece, else 0.
+    pub found: u32,
+    /// The piece's number; 0 where there is none.
+    pub number: u32,
+    /// How many pages were opened.
+    pub opened: u32,
+    /// 1 where a reached page is left unopened, else 0.
+    pub left: u32,
+    /// The piece's squared distance; 0 where there is none.
+    pub distance: u64,
+    /// The least squared distance of a page that is left; 0 where there is none.
+    pub left_distance: u64,
+}
+
 extern "C" {
     /// Makes the table empty.
     pub fn finder_empty(table: *mut u32, table_len: usize) -> u32;
@@ -157,4 +177,13 @@ extern "C" {
 
     /// Gives the clause after a quarter turn.
     pub fn finder_turned_clause(clause: u64) -> u64;
+
+    /// Finds the piece nearest to the point (x, y), on a page allowance.
+    pub fn finder_nearest_piece(
+        table: *const u32,
+        table_len: usize,
+        x: u32,
+        y: u32,
+        allowance: u32,
+    ) -> NearestFound;
 }

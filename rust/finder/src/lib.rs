@@ -2,10 +2,11 @@
 //!
 //! A table of up to 1,024 pieces is a slice of 32-bit words that the caller
 //! owns. Pieces are placed in it, and a query writes the numbers of those whose
-//! rectangle stands to a reference as a wish says. These need no table:
-//! outlines of points, [`outline_area`] and [`outline_point`]; how one
-//! rectangle is shared among the tiles round another, [`tile_shares`]; a
-//! quarter turn of the cloth, [`turned_rect`] and [`turned_clause`].
+//! rectangle stands to a reference as a wish says; [`nearest_piece`] finds the
+//! piece nearest to a point. These need no table: outlines of points,
+//! [`outline_area`] and [`outline_point`]; how one rectangle is shared among the
+//! tiles round another, [`tile_shares`]; a quarter turn of the cloth,
+//! [`turned_rect`] and [`turned_clause`].
 //!
 //! ```
 //! use finder::{relation::*, *};
@@ -40,8 +41,9 @@ pub mod relation;
 pub mod tile;
 
 pub use calls::{
-    admitted, check, empty, front, opened_pages, outline_area, outline_point, place, query,
-    tile_shares, turned_clause, turned_rect, Admitted, Listed, Place, Rect, Shares,
+    admitted, check, empty, front, nearest_piece, opened_pages, outline_area, outline_point, place,
+    query, tile_shares, turned_clause, turned_rect, Admitted, Listed, NearPiece, Nearest, Place,
+    Rect, Shares,
 };
 pub use refusal::Refusal;
 pub use relation::{one_of, Relation};
@@ -49,7 +51,8 @@ pub use relation::{one_of, Relation};
 /// Words of a table: "the first 14,325 words of a lent slice".
 pub const TABLE_WORDS: usize = 14_325;
 
-/// Pages of a table; so many answer words always suffice for opened pages.
+/// Pages of a table; so many answer words always suffice for opened pages, and
+/// with an allowance of so many the nearest piece is the nearest of all.
 pub const PAGES: usize = 341;
 
 /// Piece numbers, 0 to 1,023; so many answer words always suffice for a query.

@@ -3,7 +3,9 @@
 //! slice, which is never a null pointer and always aligned, or plain numbers.
 
 use crate::ffi;
-pub use crate::ffi::{AdmittedSet, Answer, Area, Checked, Located, Opened, TileShares};
+pub use crate::ffi::{
+    AdmittedSet, Answer, Area, Checked, Located, NearestFound, Opened, TileShares,
+};
 use crate::Rect;
 
 /// The empty call. Returns zero or the refusal.
@@ -105,4 +107,11 @@ pub fn turned_rect(rect: Rect) -> Rect {
 pub fn turned_clause(clause: u64) -> u64 {
     // SAFETY: as for the tile-shares call.
     unsafe { ffi::finder_turned_clause(clause) }
+}
+
+/// The nearest-piece call.
+pub fn nearest_piece(table: &[u32], x: u32, y: u32, allowance: u32) -> NearestFound {
+    // SAFETY: the pointer and the length are of one slice, lent for the call,
+    // which reads it only.
+    unsafe { ffi::finder_nearest_piece(table.as_ptr(), table.len(), x, y, allowance) }
 }

@@ -27,11 +27,16 @@ pub enum Refusal {
     PointCount = 10,
     /// A coordinate of the outline or of the point is above 1,000,000.
     CoordinateTooLarge = 11,
+    /// The point or the allowance of a nearest piece is out of range: x or y is
+    /// above 1,000,000, or the allowance is 0 or above 341.
+    OutOfRange = 13,
+    /// The table has no pieces.
+    NoPieces = 14,
 }
 
 impl Refusal {
     /// All of them, in order.
-    pub const ALL: [Refusal; 10] = [
+    pub const ALL: [Refusal; 12] = [
         Refusal::TableTooShort,
         Refusal::RectangleNotValid,
         Refusal::NumberTooLarge,
@@ -42,9 +47,11 @@ impl Refusal {
         Refusal::AnswerTooShort,
         Refusal::PointCount,
         Refusal::CoordinateTooLarge,
+        Refusal::OutOfRange,
+        Refusal::NoPieces,
     ];
 
-    /// Its number: 1 to 8, 10 or 11.
+    /// Its number: 1 to 8, 10, 11, 13 or 14.
     pub const fn number(self) -> u32 {
         self as u32
     }
@@ -83,6 +90,11 @@ impl fmt::Display for Refusal {
                 "a coordinate of the outline or of the point above 1,000,000: give tenths of a \
                  millimetre, 0 to 1,000,000"
             }
+            Refusal::OutOfRange => {
+                "the point or the allowance is out of range: give x and y of 0 to 1,000,000, and 1 \
+                 to 341 pages"
+            }
+            Refusal::NoPieces => "the table has no pieces",
         };
         write!(f, "refusal {}: {why}", self.number())
     }

@@ -3,6 +3,7 @@
 
 use compare::{suites, Calls, Compared};
 use finder::{raw, Rect};
+use model::nearest::Nearest;
 use model::tiles::Shares;
 
 /// The finder as the calls to compare.
@@ -88,6 +89,21 @@ impl Calls for Finder {
     fn turned_clause(&self, clause: u64) -> u64 {
         raw::turned_clause(clause)
     }
+
+    fn nearest_piece(&self, table: &[u32], x: u32, y: u32, allowance: u32) -> Nearest {
+        let nearest = raw::nearest_piece(table, x, y, allowance);
+        let piece = match (nearest.found, nearest.number, nearest.distance) {
+            (0, 0, 0) => None,
+            (1, number, distance) => Some((number, distance)),
+            _ => panic!("an absent piece that is not zero, or neither: {nearest:?}"),
+        };
+        let left = match (nearest.left, nearest.left_distance) {
+            (0, 0) => None,
+            (1, distance) => Some(distance),
+            _ => panic!("an absent page that is not zero, or neither: {nearest:?}"),
+        };
+        (nearest.refusal, piece, nearest.opened, left)
+    }
 }
 
 fn run(suite: &str) {
@@ -129,6 +145,7 @@ suites! {
     answers "answers";
     refusals "refusals";
     turned_lays "turned lays";
+    nearest "nearest";
     samples "samples";
     placed_tables "placed tables";
     built_tables "built tables";

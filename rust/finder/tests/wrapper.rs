@@ -2,6 +2,7 @@
 
 use finder::relation::{one_of, Relation, ALL};
 use finder::{admitted, check, empty, front, opened_pages, place, query, Rect, Refusal};
+use finder::{nearest_piece, NearPiece, Nearest};
 use finder::{outline_area, outline_point, Place, POINTS, POINTS_FEWEST};
 use finder::{tile, tile_shares, Shares, TILES};
 use finder::{turned_clause, turned_rect};
@@ -33,7 +34,7 @@ fn sizes_are_those_of_the_paper() {
 
 #[test]
 fn refusals_have_their_numbers() {
-    let numbers = [1, 2, 3, 4, 5, 6, 7, 8, 10, 11];
+    let numbers = [1, 2, 3, 4, 5, 6, 7, 8, 10, 11, 13, 14];
     assert_eq!(Refusal::ALL.map(Refusal::number), numbers);
     for refusal in Refusal::ALL {
         assert_eq!(Refusal::from_number(refusal.number()), Some(refusal));
@@ -110,6 +111,10 @@ fn each_refusal_by_name() {
     assert_eq!(far, Err(Refusal::CoordinateTooLarge));
     assert_eq!(tile_shares(bad, good), Err(Refusal::RectangleNotValid));
     assert_eq!(tile_shares(good, bad), Err(Refusal::RectangleNotValid));
+    let far = nearest_piece(&nine(), 0, EDGE + 1, 1);
+    assert_eq!(far, Err(Refusal::OutOfRange));
+    empty(&mut table).unwrap();
+    assert_eq!(nearest_piece(&table, 0, 0, 1), Err(Refusal::NoPieces));
 }
 
 #[test]
@@ -251,6 +256,74 @@ fn turned_clauses() {
     assert_eq!(turned_clause(u64::MAX), u64::MAX);
 }
 
+fn found(number: u32, distance: u64, opened: u32, left: Option<u64>) -> Nearest {
+    let piece = Some(NearPiece { number, distance });
+    Nearest {
+        piece,
+        opened,
+        left,
+    }
+}
+
+/// Pieces 0 to 3 are in one page, which ends at x = 35, and 4 to 8 in another,
+/// which begins at x = 40.
+#[test]
+fn nearest_of_the_nine_pieces() {
+    let table = nine();
+    let asked = |x, y, allowance| nearest_piece(&table, x, y, allowance).unwrap();
+    let root_alone = |left| Nearest {
+        piece: None,
+        opened: 1,
+        left,
+    };
+    assert_eq!(asked(80, 0, 1), root_alone(Some(0)));
+    assert_eq!(asked(37, 2, 1), root_alone(Some(4)));
+    assert_eq!(asked(80, 0, 2), found(8, 0, 2, Some(2025)));
+    assert_eq!(asked(37, 2, 341), found(3, 4, 2, Some(9)));
+    assert_eq!(asked(38, 9, 341), found(4, 20, 2, Some(25)));
+    let far = found(8, 999_830_007_225, 2, Some(999_930_001_225));
+    assert_eq!(asked(EDGE, 5, PAGES as u32), far);
+}
+
+/// One page, so none is left; of two pieces as near the lower number.
+#[test]
+fn nearest_of_two_pieces() {
+    let mut table = vec![0; TABLE_WORDS];
+    empty(&mut table).unwrap();
+    let asked = |table: &[u32], x, y| nearest_piece(table, x, y, 1).unwrap();
+    place(&mut table, 1023, Rect::new(0, 0, 10, 10)).unwrap();
+    assert_eq!(asked(&table, 15, 5), found(1023, 25, 1, None));
+    place(&mut table, 7, Rect::new(20, 0, 30, 10)).unwrap();
+    assert_eq!(asked(&table, 15, 5), found(7, 25, 1, None));
+    assert_eq!(asked(&table, 14, 5), found(1023, 16, 1, None));
+    let far = found(7, 1_999_920_001_000, 1, None);
+    assert_eq!(asked(&table, EDGE, EDGE), far);
+}
+
+/// What belongs to an absent piece or page is 0, and all is where refused.
+#[test]
+fn raw_numbers_of_nearest_pieces() {
+    let numbers = |table: &[u32], x, allowance| {
+        let n = finder::raw::nearest_piece(table, x, 2, allowance);
+        let small = [n.refusal, n.found, n.number, n.opened, n.left];
+        (small, n.distance, n.left_distance)
+    };
+    let refused = |number| ([number, 0, 0, 0, 0], 0, 0);
+    let mut table = nine();
+    assert_eq!(numbers(&table, 37, 1), ([0, 0, 0, 1, 1], 0, 4));
+    assert_eq!(numbers(&table, 37, 2), ([0, 1, 3, 2, 1], 4, 9));
+    assert_eq!(numbers(&table, 37, 0), refused(13));
+    assert_eq!(numbers(&table, 37, 342), refused(13));
+    assert_eq!(numbers(&table, EDGE + 1, 341), refused(13));
+    assert_eq!(numbers(&table[1..], 37, 1), refused(1));
+    table[2] = 0;
+    assert_eq!(numbers(&table, 37, 1), refused(6));
+    empty(&mut table).unwrap();
+    assert_eq!(numbers(&table, 37, 1), refused(14));
+    place(&mut table, 5, Rect::new(0, 0, 35, 5)).unwrap();
+    assert_eq!(numbers(&table, 37, 341), ([0, 1, 5, 1, 0], 4, 0));
+}
+
 /// Empty slices are lent by a pointer that is not null.
 #[test]
 fn slices_of_no_length() {
@@ -267,4 +340,5 @@ fn slices_of_no_length() {
     assert_eq!(front(&[], 0), []);
     assert_eq!(outline_area(&[]), Err(Refusal::PointCount));
     assert_eq!(outline_point(&[], 0, 0), Err(Refusal::PointCount));
+    assert_eq!(nearest_piece(&[], 0, 0, 1), Err(Refusal::TableTooShort));
 }

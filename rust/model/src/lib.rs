@@ -1,5 +1,5 @@
 //! Document 01 once more, in plain safe Rust, and the requests of document 02
-//! that landed: 2.3, 2.9 and 2.10.
+//! that landed: 2.3, 2.9, 2.10 and 2.12.
 //!
 //! This crate is a second reading of the papers. It shares nothing with the
 //! finder itself, so that the two can be compared. It is written for clarity:
@@ -27,6 +27,7 @@ pub mod codes;
 pub mod fractions;
 pub mod inside;
 pub mod job;
+pub mod nearest;
 pub mod outlines;
 pub mod pages;
 pub mod placing;
@@ -47,6 +48,7 @@ pub mod tables;
 
 pub use clauses::admitted;
 pub use job::job;
+pub use nearest::nearest_piece;
 pub use outlines::{outline_area, outline_point};
 pub use pages::empty;
 pub use placing::place;

@@ -21,3 +21,7 @@ pub const ANSWER_TOO_SHORT: u32 = 8;
 pub const POINT_COUNT: u32 = 10;
 /// "11, a coordinate of the outline or of the point above 1,000,000"
 pub const COORDINATE_TOO_LARGE: u32 = 11;
+/// "13, point or allowance out of range"
+pub const OUT_OF_RANGE: u32 = 13;
+/// "14, table without pieces"
+pub const NO_PIECES: u32 = 14;

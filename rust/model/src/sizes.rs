@@ -1,7 +1,7 @@
 //! The sizes of the papers, each named one time.
 
-/// "none exceeds 1,000,000", and of an outline "each coordinate at most
-/// 1,000,000"
+/// "none exceeds 1,000,000", and of an outline and of a point "each coordinate
+/// at most 1,000,000"
 pub const EDGE: u32 = 1_000_000;
 
 /// "A piece has a number, 0 to 1,023": so many numbers.

@@ -6,7 +6,7 @@ use model::tables::samples;
 use model::Rect;
 
 pub const SEED: u64 = 102;
-const LENGTHS: [usize; 10] = [0, 1, 2, 3, 44, 45, 14_324, 14_325, 14_326, 20_000];
+pub const LENGTHS: [usize; 10] = [0, 1, 2, 3, 44, 45, 14_324, 14_325, 14_326, 20_000];
 
 pub fn lengths(compared: &mut Compared) -> Outcome {
     let mut random = Random::new(SEED);
@@ -20,7 +20,7 @@ pub fn lengths(compared: &mut Compared) -> Outcome {
 }
 
 /// 20,000 words each. What stands after a sample's table is not zero.
-fn contents(random: &mut Random) -> Vec<(&'static str, Vec<u32>)> {
+pub fn contents(random: &mut Random) -> Vec<(&'static str, Vec<u32>)> {
     let mut contents = samples();
     for (_, words) in &mut contents {
         words.resize_with(20_000, || random.word() | 1);

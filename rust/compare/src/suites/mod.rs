@@ -6,6 +6,7 @@ mod answers;
 mod clauses;
 mod configurations;
 mod lengths;
+mod nearest;
 mod outlines;
 mod refusals;
 mod sound;
@@ -16,7 +17,7 @@ mod unsound;
 /// A suite: its name and what it does.
 pub type Suite = (&'static str, fn(&mut Compared) -> Outcome);
 
-pub const SUITES: [Suite; 16] = [
+pub const SUITES: [Suite; 17] = [
     ("clauses", clauses::clauses),
     ("front", answers::front),
     ("outlines", outlines::outlines),
@@ -27,6 +28,7 @@ pub const SUITES: [Suite; 16] = [
     ("lengths", lengths::lengths),
     ("answers", answers::answers),
     ("refusals", refusals::refusals),
+    ("nearest", nearest::nearest),
     ("turned lays", turning::turned_lays),
     ("samples", sound::samples),
     ("placed tables", sound::placed),
@@ -65,6 +67,7 @@ pub fn seeds() -> String {
         tiles::SEED,
         turning::SEED,
         turning::LAYS_SEED,
+        nearest::SEED,
     ];
     format!("seeds {seeds:?}")
 }

@@ -29,6 +29,7 @@ fn all_calls(compared: &mut Compared, table: &mut [u32], random: &mut Random) ->
     let clauses = cases::clauses(random);
     compared.query(table, rect, &clauses, 1024)?;
     compared.opened_pages(table, rect, &clauses, 341)?;
+    compared.nearest_piece(table, rect.x1, rect.y2, 341)?;
     compared.place(table, random.below(1030), rect)?;
     compared.place(table, random.below(1030), cases::spoilt(rect, random))?;
     Ok(())
