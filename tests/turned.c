@@ -5,46 +5,8 @@
  */
 #include "finder.h"
 
-#include <stdio.h>
-#include <stdlib.h>
-
-#define WORD_BYTES 4
-#define JOB_BYTES 65536
-#define JOB_WORDS (JOB_BYTES / WORD_BYTES)
-
-/* A piece is its number and its rectangle; a query is its rectangle, the count
-   of its clauses, and the clauses. */
-#define RECT_WORDS 4
-#define PIECE_WORDS (1 + RECT_WORDS)
-#define QUERY_HEAD_WORDS (RECT_WORDS + 1)
-#define CLAUSE_WORDS 2
-
-/* The job's words, how many it has, and how many of them are taken. */
-static uint32_t words[JOB_WORDS];
-static size_t words_in_job, words_taken;
-
-static void fail(const char *why)
-{
-    fprintf(stderr, "tests/turned.c: %s\n", why);
-    exit(EXIT_FAILURE);
-}
-
-static uint32_t word_at(const unsigned char *bytes)
-{
-    return bytes[0] | (uint32_t)bytes[1] << 8 | (uint32_t)bytes[2] << 16 |
-           (uint32_t)bytes[3] << 24;
-}
-
-static void read_job(void)
-{
-    static unsigned char bytes[JOB_BYTES + 1];
-    size_t length = fread(bytes, 1, sizeof bytes, stdin);
-    if (length > JOB_BYTES || length % WORD_BYTES != 0)
-        fail("bad job: too many bytes, or a word that is cut");
-    words_in_job = length / WORD_BYTES;
-    for (size_t i = 0; i < words_in_job; i++)
-        words[i] = word_at(bytes + WORD_BYTES * i);
-}
+#define PROGRAM "tests/turned.c"
+#include "../tools/job_words.h"
 
 static void write_job(void)
 {
@@ -54,15 +16,6 @@ static void write_job(void)
     }
     if (fflush(stdout) != 0 || ferror(stdout))
         fail("the turned job cannot be written");
-}
-
-static uint32_t *take(size_t count)
-{
-    uint32_t *taken = words + words_taken;
-    if (count > words_in_job - words_taken)
-        fail("bad job: it ends too early");
-    words_taken += count;
-    return taken;
 }
 
 static void turn_rect(uint32_t *rect)
@@ -100,11 +53,10 @@ static void turn_queries(void)
 
 int main(void)
 {
-    read_job();
+    read_words();
     turn_pieces();
     turn_queries();
-    if (words_taken != words_in_job)
-        fail("bad job: words are left over");
+    expect_end();
     write_job();
     return EXIT_SUCCESS;
 }
