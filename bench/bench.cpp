@@ -22,6 +22,7 @@ extern "C" {
 // The inner calls on a table that is tested once: crate finder_bench.
 uint64_t bench_queries(const uint32_t *table, size_t table_len, const uint32_t *references, size_t reference_words, const uint64_t *clauses,
                        size_t clause_count, uint16_t *answer, size_t answer_len);
+uint64_t bench_nearest(const uint32_t *table, size_t table_len, const uint32_t *points, size_t point_words, uint32_t allowance);
 uint32_t bench_replay(uint32_t *table, size_t table_len, const uint32_t *calls, size_t call_words, uint32_t *refusals, size_t refusal_len);
 // The Rust model's walk: crate bench_model.
 uint32_t model_query(const uint32_t *table, size_t table_len, uint32_t x1, uint32_t y1, uint32_t x2, uint32_t y2, const uint64_t *clauses,
@@ -331,6 +332,173 @@ static void queries(const char *data, const Rects &rects, bool learnt) {
     for (auto &wish : wishes()) query_row(data, rects, wish, refs, boost, library, learnt);
 }
 
+// ---- nearest pieces ----
+
+struct At {
+    uint32_t x, y;
+};
+using Ats = std::vector<At>;
+
+static uint32_t gap(uint32_t v, uint32_t low, uint32_t high) { return v < low ? low - v : v > high ? v - high : 0; }
+
+static uint64_t distance(const Rect &r, const At &p) {
+    uint64_t dx = gap(p.x, r.x1, r.x2), dy = gap(p.y, r.y1, r.y2);
+    return dx * dx + dy * dy;
+}
+
+// The first that no other is nearer than.
+static uint32_t scan_nearest(const Rects &rects, const At &p) {
+    uint32_t best = 0;
+    uint64_t least = UINT64_MAX;
+    for (uint32_t i = 0; i < rects.size(); i++) {
+        uint64_t d = distance(rects[i], p);
+        if (d < least) {
+            least = d;
+            best = i;
+        }
+    }
+    return best;
+}
+
+static finder_nearest find_nearest(const At &p, uint32_t allowance) { return finder_nearest_piece(table.data(), table.size(), p.x, p.y, allowance); }
+
+// Boost takes the squares of uint32_t coordinates' differences in long long, so none wraps.
+static Value boost_nearest(const Tree &boost, const At &p) {
+    Value found;
+    boost.query(bgi::nearest(Point(p.x, p.y), 1), &found);
+    return found;
+}
+
+static Rect area_of(const Rects &rects) {
+    Rect a = rects[0];
+    for (auto &r : rects) a = {std::min(a.x1, r.x1), std::min(a.y1, r.y1), std::max(a.x2, r.x2), std::max(a.y2, r.y2)};
+    return a;
+}
+
+static Ats points_in(const Rect &r, int count) {
+    Ats points;
+    for (int i = 0; i < count; i++) {
+        uint32_t x = r.x1 + random_below(r.x2 - r.x1 + 1), y = r.y1 + random_below(r.y2 - r.y1 + 1);
+        points.push_back({x, y});
+    }
+    return points;
+}
+
+static std::vector<uint32_t> words_of(const Ats &points) {
+    std::vector<uint32_t> words;
+    for (auto &p : points)
+        for (uint32_t word : {p.x, p.y}) words.push_back(word);
+    return words;
+}
+
+// How many pages are opened, where all sides agree: on the distance, since of two pieces as near each may find either.
+static double pages_opened(const Rects &rects, const Tree &boost, const Ats &points) {
+    uint64_t opened = 0, total = 0;
+    auto words = words_of(points);
+    for (auto &p : points) {
+        uint64_t least = distance(rects[scan_nearest(rects, p)], p);
+        auto a = find_nearest(p, FINDER_PAGES);
+        if (a.refusal || !a.found || a.distance != least || distance(rects[a.number], p) != least) fail("finder and scan, the nearest piece");
+        if (distance(rects[boost_nearest(boost, p).second], p) != least) fail("Boost and scan, the nearest piece");
+        opened += a.opened;
+        total += a.number + a.opened + a.distance + a.left_distance;
+    }
+    if (bench_nearest(table.data(), table.size(), words.data(), words.size(), FINDER_PAGES) != total) fail("full and inner, the nearest piece");
+    return (double)opened / points.size();
+}
+
+static std::vector<double> nearest_times(const Rects &rects, const Tree &boost, const Ats &points) {
+    auto words = words_of(points);
+    Ats few(points.begin(), points.begin() + FEW);
+    auto full = [&] { for (auto &p : few) sink += find_nearest(p, FINDER_PAGES).number; };
+    auto inner = [&] { sink += bench_nearest(table.data(), table.size(), words.data(), words.size(), FINDER_PAGES); };
+    auto linear = [&] { for (auto &p : few) sink += scan_nearest(rects, p); };
+    auto by_boost = [&] { for (auto &p : points) sink += boost_nearest(boost, p).second; };
+    int each = (int)points.size();
+    return side_by_side({{full, FEW}, {inner, each}, {linear, FEW}, {by_boost, each}});
+}
+
+static void nearest_row(const char *data, const char *where, const Rects &rects, const Tree &boost, const Ats &points) {
+    double opened = pages_opened(rects, boost, points);
+    auto ns = nearest_times(rects, boost, points);
+    printf("| %s | %s | %.1f | %.0f | %.0f | %.0f | %.0f | %.0f | %.2f |\n", data, where, opened, ns[0], ns[1], ns[1] / opened, ns[2], ns[3], ns[1] / ns[3]);
+}
+
+static void nearest(const char *data, const Rects &rects) {
+    build(rects);
+    Tree boost = boost_tree(rects);
+    nearest_row(data, "cloth", rects, boost, points_in({0, 0, EDGE, EDGE}, QUERIES));
+    nearest_row(data, "area", rects, boost, points_in(area_of(rects), QUERIES));
+}
+
+// The tree of FINDER_PAGES pages with four entries each, over the rectangles in their order.
+static void build_full(const Rects &rects) {
+    const uint32_t head = 3, page_words = 42, entries = 4;
+    Rects below = rects;
+    std::vector<uint32_t> numbers;
+    for (uint32_t i = 0; i < rects.size(); i++) numbers.push_back(i);
+    std::fill(table.begin(), table.end(), 0);
+    uint32_t pages = 0;
+    for (uint32_t level = 0; below.size() > 1; level++) {
+        Rects above;
+        std::vector<uint32_t> made;
+        for (size_t i = 0; i < below.size(); i += entries) {
+            uint32_t *word = &table[head + page_words * pages];
+            *word++ = level;
+            *word++ = entries;
+            for (size_t j = i; j < i + entries; j++)
+                for (uint32_t w : {below[j].x1, below[j].y1, below[j].x2, below[j].y2, numbers[j]}) *word++ = w;
+            above.push_back(area_of(Rects(below.begin() + i, below.begin() + i + entries)));
+            made.push_back(pages++);
+        }
+        below = above;
+        numbers = made;
+    }
+    table[0] = pages;
+    table[1] = numbers[0];
+    table[2] = (uint32_t)rects.size();
+    if (pages != FINDER_PAGES || finder_check(table.data(), table.size()).pieces != rects.size()) fail("the full table");
+}
+
+// Small pieces on a ring: from near its middle every page is nearer than every piece.
+static void nearest_worst() {
+    const double around = 2 * std::acos(-1.0), middle = EDGE / 2, radius = 450000;
+    Rects ring;
+    for (uint32_t i = 0; i < PIECES; i++) {
+        uint32_t x = (uint32_t)(middle + radius * std::cos(around * i / PIECES)), y = (uint32_t)(middle + radius * std::sin(around * i / PIECES));
+        ring.push_back({x, y, x + 1, y + 1});
+    }
+    build_full(ring);
+    Tree boost = boost_tree(ring);
+    const uint32_t m = EDGE / 2;
+    auto points = points_in({m - 3, m - 3, m + 3, m + 3}, QUERIES / 64);
+    if (pages_opened(ring, boost, points) != FINDER_PAGES) fail("not every page is opened");
+    auto ns = nearest_times(ring, boost, points);
+    printf("| ring | %d | %.0f | %.0f | %.0f | %.0f | %.0f | %.2f |\n", FINDER_PAGES, ns[0], ns[1], ns[1] / FINDER_PAGES, ns[2], ns[3], ns[1] / ns[3]);
+}
+
+// How much a search finds on its allowance.
+static void allowances(const Rects &rects) {
+    build(rects);
+    auto points = points_in({0, 0, EDGE, EDGE}, QUERIES);
+    auto words = words_of(points);
+    for (uint32_t allowance : {1, 2, 4, 8, 16, FINDER_PAGES}) {
+        double opened = 0, found = 0, nearest = 0, beyond = 0;
+        for (auto &p : points) {
+            auto a = find_nearest(p, allowance);
+            uint64_t least = distance(rects[scan_nearest(rects, p)], p);
+            opened += a.opened;
+            found += a.found;
+            nearest += a.found && a.distance == least;
+            if (a.found) beyond += std::sqrt(a.distance) - std::sqrt(least);
+        }
+        auto ns = side_by_side({{[&] { sink += bench_nearest(table.data(), table.size(), words.data(), words.size(), allowance); }, QUERIES}})[0];
+        printf("| %u | %.1f | %.1f | %.1f | ", allowance, opened / QUERIES, found / QUERIES * 100, nearest / QUERIES * 100);
+        if (found > 0) printf("%.2f", beyond / found / 10);
+        printf(" | %.0f | %.0f |\n", ns, ns * QUERIES / opened);
+    }
+}
+
 // ---- placing ----
 
 static void placing(const char *data, const Rects &rects, double pass) {
@@ -428,6 +596,13 @@ int main() {
     for (auto &d : data) queries(d.name, d.rects, false);
     printf("\nThe same %d references again and again, ns each:\n\n| data | wish | inner | Boost | Boost, set given | inner / Boost | inner / Boost, set given |\n|---|---|---|---|---|---|---|\n", FEW);
     for (auto &d : data) queries(d.name, d.rects, true);
+    printf("\nThe nearest piece on 1,024 pieces, ns each:\n\n| data | points | opened | full call | inner | inner, a page | linear scan | Boost | inner / Boost |\n|---|---|---|---|---|---|---|---|---|\n");
+    for (auto &d : data) nearest(d.name, d.rects);
+    printf("\nThe most that it can open:\n\n| data | opened | full call | inner | inner, a page | linear scan | Boost | inner / Boost |\n|---|---|---|---|---|---|---|---|\n");
+    nearest_worst();
+    printf("\nThe same on an allowance, on the lay; how many of 100 find a piece, and the nearest, and how much farther the piece found is, in mm:\n\n"
+           "| allowance | opened | a piece | the nearest | farther | inner | inner, a page |\n|---|---|---|---|---|---|---|\n");
+    allowances(data[0].rects);
     printf("\nPlacing 1,024 pieces, ns each:\n\n| data | full call | in passes | inner | Boost | libspatialindex | inner / Boost |\n|---|---|---|---|---|---|---|\n");
     for (auto &d : data) placing(d.name, d.rects, pass);
     printf("\nPages opened in percent of all pages, beside the paper's:\n\n| relation | small | paper | medium | paper | large | paper |\n|---|---|---|---|---|---|---|\n");
