@@ -22,7 +22,7 @@ pub record IsFirst (xs : List Near) (a : Near) : Type 0 where
 pub record Claims : Type 0 where
   -- "of least squared distance .., ties to the lower page number"; "the best piece .. (ties to the lower number)"
   pub nearest : (xs : List Near) → MatchOption (nearest xs) (xs ≡ []) (IsFirst xs)
-  -- "squared distance from point to rectangle": the least of those to its points of whole units
+  -- "squared distance from point to rectangle": the least of those to its points, whole ones or not
   pub distance : (x y : ℕ) (r : Rect) → r.x1 ≤ r.x2 → r.y1 ≤ r.y2 → LeastSquare x y r
   -- from a point on the cloth it is at most 2 * 10^12, which 64 bits hold, also times 1,024
   pub most : (x y : ℕ) (r : Rect) → x ≤ EDGE → y ≤ EDGE → Small r → distance_to x y r ≤ square EDGE + square EDGE

@@ -21,14 +21,15 @@ apart a b = (a - b) + (b - a)
 abbrev pub points_apart : ℕ → ℕ → ℕ → ℕ → ℕ
 points_apart x y a b = square (apart x a) + square (apart y b)
 
--- the point (a, b) lies in the rectangle
-pub record InRect (a b : ℕ) (r : Rect) : Type 0 where
-  pub west : r.x1 ≤ a
-  pub east : a ≤ r.x2
-  pub south : r.y1 ≤ b
-  pub north : b ≤ r.y2
+-- the point (a, b) lies in the rectangle, all in nth parts of a unit
+pub record InRect (n a b : ℕ) (r : Rect) : Type 0 where
+  pub west : n * r.x1 ≤ a
+  pub east : a ≤ n * r.x2
+  pub south : n * r.y1 ≤ b
+  pub north : b ≤ n * r.y2
 
--- what a squared distance is: the least of those from the point to the rectangle's points of whole units
+-- what a squared distance is: the least of those from the point to the points of the rectangle, in whatever parts of a unit they lie, and
+-- one of them is that far
 pub record LeastSquare (x y : ℕ) (r : Rect) : Type 0 where
-  pub least : (a b : ℕ) → InRect a b r → distance_to x y r ≤ points_apart x y a b
-  pub attained : (a : ℕ) × (b : ℕ) × InRect a b r × (points_apart x y a b ≡ distance_to x y r)
+  pub least : (n a b : ℕ) → InRect n a b r → square n * distance_to x y r ≤ points_apart (n * x) (n * y) a b
+  pub attained : (a : ℕ) × (b : ℕ) × InRect 1 a b r × (points_apart x y a b ≡ distance_to x y r)

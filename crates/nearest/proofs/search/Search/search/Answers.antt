@@ -1,6 +1,6 @@
 -- The root is opened, then one page a turn.
 use native.Mathlib.Omega.{arith}
-use mathlib.Core.Path.{refl, sym, ap, subst, ◌∙◌}
+use mathlib.Core.Path.{◌≡◌, refl, sym, ap, subst, ◌∙◌}
 use lib.ListN.{length}
 use Rattle.std.specs.Prelude.{swap_remove}
 use Rattle.std.proofs.lemmas.List.{get_or_default}
@@ -48,7 +48,9 @@ returns-then-self-allowance-clause-shows c =
     let new = c.open.new.self in
     let shows = open-shows s c.loop-at.self i.same c.loop-at.p i.ready new c.open.ensures.opens in
     elim c.then-self-allowance.branch [
-      | then-self-allowance-via-then-self-allowance w ↦ subst (λ n. Shows s.table s.point new (opened_for s n)) w.if-self-allowance.true shows
+      | then-self-allowance-via-then-self-allowance w ↦
+          let spent : new.opened ≡ c.args.allowance = omega (arith, w.if-self-allowance.true, i.some, c.open.ensures.opens.count) in
+          subst (λ n. Shows s.table s.point new (opened_for s n)) spent shows
       | then-self-allowance-via-else-self-allowance+then-not-is_nearer w ↦
           stop-shows s.table s.point new c.args.allowance shows (omega (arith, i.some, c.open.ensures.opens.count))
           (none-nearer-least _ _ _ _ c.in_ok-at.ensures (sym w.is_nearer.ensures ∙ w.if-not-is_nearer.true))
