@@ -57,9 +57,13 @@ module _ (cs : List ℕ) where
       ones-summed (λ h. row_set cs (suc h)) CODES 0 ∙ zero-add _
       ∙ total-same _ _ CODES (λ h _. ones-packed (λ k. admits cs (suc h) (suc k)) CODES)
 
-  refused-answer : (r : ℕ) → (r ≡ 0 → ⊥) → ◌≡◌ {A = AdmittedSet} (record { refusal = r; rows = replicate CODES 0; count = 0 }) (answer r cs)
-  refused-answer zero n = absurd (n refl)
-  refused-answer (suc r) n = refl
+  answer-refused : (r : ℕ) → (r ≡ 0 → ⊥) → ◌≡◌ {A = AdmittedSet} (record { refusal = r; rows = replicate CODES 0; count = 0 }) (answer r cs)
+  answer-refused zero n = absurd (n refl)
+  answer-refused (suc r) n = refl
+
+  pub refused-answer : (r : ℕ) → (r ≡ 0 → ⊥) → r ≡ refusal_of cs → ◌≡◌ {A = AdmittedSet} (record { refusal = r; rows = replicate CODES 0; count = 0 }) (admitted_of cs)
+  unfolding admitted_of
+  refused-answer r n e = answer-refused r n ∙ ap (λ (x : ℕ). answer x cs) e
 
   answer-refusal : (r : ℕ) → (answer r cs).refusal ≡ r
   answer-refusal zero = refl
@@ -71,8 +75,7 @@ module _ (cs : List ℕ) where
 
   -- what the call returns, where the clauses are refused, and where they are a query
   pub refused-set : (e : Refusal) → number_of e ≡ refusal_of cs → admitted_set_of (Err e) ≡ admitted_of cs
-  unfolding admitted_of
-  refused-set e q = refused-answer (number_of e) (number-some e) ∙ ap (λ (x : ℕ). answer x cs) q
+  refused-set e q = refused-answer (number_of e) (number-some e) q
 
   pub accepted-set : (set : RowSets) → set.rows ≡ row_sets cs → 0 ≡ refusal_of cs → admitted_set_of (Ok set) ≡ admitted_of cs
   unfolding admitted_of

@@ -100,7 +100,7 @@ module _ (rows : List ℕ) where
       added (inside c (suc n)) (picked c n) (get_or rows n 0)
       ∙ ap (λ (x : ℕ). bit_or x (cond (inside c (suc n)) (get_or rows n 0) 0)) (picked-joined c n)
 
-  all-picked : listed (λ c. picked (suc c) CODES) CODES ≡ joined_of rows
+  pub all-picked : listed (λ c. picked (suc c) CODES) CODES ≡ joined_of rows
   unfolding joined_of
   all-picked = listed_same _ _ CODES (λ c l. picked-joined (suc c) CODES)
 
