@@ -41,11 +41,11 @@ module _ (w : List ℕ) (long : TABLE_WORDS ≤ length w) where
   unfolding check_call
   answer-long = ap (λ b. cond b too_short (cond (sound w) (record { refusal = ACCEPTED; pieces = (table_in w).count }) not_sound)) (le-ltb (length w) TABLE_WORDS long)
 
-  answer-unsound : sound w ≡ false → check_call w ≡ not_sound
-  answer-unsound e = answer-long ∙ ap (λ b. cond b (record { refusal = ACCEPTED; pieces = (table_in w).count }) not_sound) e
+  pub answer-unsound : (T (sound w) → ⊥) → check_call w ≡ record { refusal = TABLE_NOT_SOUND; pieces = 0 }
+  answer-unsound n = answer-long ∙ ap (λ b. cond b (record { refusal = ACCEPTED; pieces = (table_in w).count }) not_sound) (T_false (sound w) n)
 
-  answer-sound : sound w ≡ true → check_call w ≡ record { refusal = ACCEPTED; pieces = (table_in w).count }
-  answer-sound e = answer-long ∙ ap (λ b. cond b (record { refusal = ACCEPTED; pieces = (table_in w).count }) not_sound) e
+  pub answer-sound : T (sound w) → check_call w ≡ record { refusal = ACCEPTED; pieces = (table_in w).count }
+  answer-sound s = answer-long ∙ ap (λ b. cond b (record { refusal = ACCEPTED; pieces = (table_in w).count }) not_sound) (T_true (sound w) s)
 
 -- the last two by the first words, v
 module _ (w : List ℕ) {v : List ℕ} (first : IsFirstChunk w v TABLE_WORDS) where
@@ -53,12 +53,12 @@ module _ (w : List ℕ) {v : List ℕ} (first : IsFirstChunk w v TABLE_WORDS) wh
   same = sym (ap sound first.same ∙ sound-firsts w)
 
   pub answer_unsound : sound v ≡ false → check_call w ≡ record { refusal = TABLE_NOT_SOUND; pieces = 0 }
-  answer_unsound e = answer-unsound w first.enough (same ∙ e)
+  answer_unsound e = answer-unsound w first.enough (false-T (sound w) (same ∙ e))
 
   pub answer_words : sound v ≡ true → check_call w ≡ record { refusal = ACCEPTED; pieces = get_or v 2 0 }
   answer_words e =
       let pieces : (table_in w).count ≡ get_or v 2 0 = pieces-word w first.enough ∙ sym (ap (λ x. get_or x 2 0) first.same ∙ get_or-take TABLE_WORDS w 2 0 (omega arith)) in
-      answer-sound w first.enough (same ∙ e) ∙ (λ i. record { refusal = ACCEPTED; pieces = pieces i })
+      answer-sound w first.enough (true-T (sound w) (same ∙ e)) ∙ (λ i. record { refusal = ACCEPTED; pieces = pieces i })
 
 -- and there is no fourth one
 answers : (w : List ℕ) (P : Checked → Type 0) → (length w < TABLE_WORDS → P too_short) → (TABLE_WORDS ≤ length w → (T (sound w) → ⊥) → P not_sound)
@@ -66,8 +66,8 @@ answers : (w : List ℕ) (P : Checked → Type 0) → (length w < TABLE_WORDS �
 answers w P a b c = go (dec_lt (length w) TABLE_WORDS)
   where
     decided : TABLE_WORDS ≤ length w → (t : Bool) → sound w ≡ t → P (check_call w)
-    decided l true e = subst P (sym (answer-sound w l e)) (c l (true-T (sound w) e))
-    decided l false e = subst P (sym (answer-unsound w l e)) (b l (false-T (sound w) e))
+    decided l true e = subst P (sym (answer-sound w l (true-T (sound w) e))) (c l (true-T (sound w) e))
+    decided l false e = subst P (sym (answer-unsound w l (false-T (sound w) e))) (b l (false-T (sound w) e))
 
     go : Dec (length w < TABLE_WORDS) → P (check_call w)
     go (yes l) = subst P (sym (answer_short w l)) (a l)

@@ -1,15 +1,29 @@
--- Zero words, tested by an `or` over them.
-use Prim.Native.Nat.{ℕ}
+-- Zero words, tested by an `or` over them; of a list in two parts, and of the words from a on.
+use Prim.Native.Nat.{ℕ, ◌+◌, ◌<◌}
 use native.Mathlib.Omega.{arith}
 use native.Mathlib.Decide.{ℕ_discrete}
-use mathlib.Core.Path.{◌≡◌, sym, ap, ◌∙◌}
-use mathlib.Core.Bool.{◌&&◌, and-true, and_assoc}
-use mathlib.Core.List.{List, [], ◌∷◌}
+use native.Mathlib.Numerals.{add-one}
+use mathlib.Core.Path.{◌≡◌, refl, sym, ap, ◌∙◌}
+use mathlib.Core.Bool.{Bool, true, false, ◌&&◌, and-true, and_assoc}
+use mathlib.Core.List.{List, [], ◌∷◌, ◌++◌}
+use lib.ListN.{length, get_or, drop}
+use lib.Seq.{drop-cons}
 use lib.Bits.{bit_or, or_add_and, and_le_l, and_le_r, or_zero_l}
 use lib.Dec.{eqb}
 use borrow.Author.Tests.{ne_eqb}
 use Rattle.std.specs.List.{fold}
 use Rattle.pages.specs.Sound.{zeros}
+
+zeros-append : (xs ys : List ℕ) → zeros (xs ++ ys) ≡ zeros xs && zeros ys
+zeros-append [] ys = refl
+zeros-append (x ∷ xs) ys = go (eqb x 0) (zeros-append xs ys)
+  where
+    go : (b : Bool) → zeros (xs ++ ys) ≡ zeros xs && zeros ys → b && zeros (xs ++ ys) ≡ (b && zeros xs) && zeros ys
+    go true e = e
+    go false e = refl
+
+zeros-next : (w : List ℕ) (a b : ℕ) → a < length w → a + 1 ≡ b → zeros (drop a w) ≡ eqb (get_or w a 0) 0 && zeros (drop b w)
+zeros-next w a b l e = rw (drop-cons w a 0 l, ← e, add-one)
 
 or-blank : (a x : ℕ) → eqb (bit_or a x) 0 ≡ eqb a 0 && eqb x 0
 or-blank a x = go (ℕ_discrete a 0) (ℕ_discrete x 0)

@@ -3,9 +3,9 @@ use Prim.Native.Nat.{ℕ, ◌+◌, ◌-◌, ◌*◌, ◌≤◌, ◌<◌}
 use native.Mathlib.Omega.{arith}
 use mathlib.Core.Path.{◌≡◌, sym, ap, subst, ◌∙◌}
 use mathlib.Core.Bool.{Bool, true, false}
-use mathlib.Core.List.{List}
-use lib.ListN.{length, get_or, take, drop, length-drop}
-use lib.Seq.{take_all}
+use mathlib.Core.List.{List, ◌++◌}
+use lib.ListN.{length, get_or, take, drop, length-take, length-drop, take-append-drop}
+use lib.Seq.{take_at, drop-append-le}
 use lib.Dec.{T}
 use Rattle.pages.specs.Sizes.{PIECES, PAGE_WORDS, TABLE_HEAD, PAGES, TABLE_WORDS, TOP_LEVEL}
 use Rattle.pages.specs.Layout.{page, page_words, table_in}
@@ -21,6 +21,14 @@ use Rattle.soundness.proofs.Marks.{one-most}
 use Rattle.soundness.proofs.Counts.{all_one}
 use Rattle.soundness.proofs.Trees.{tree-sound}
 use Rattle.soundness.proofs.Passes.{rest-zero, root-tree, room-pages, room-pieces, pages-total, pieces-total}
+
+-- the words from a on, of the first n
+front-part : (w : List ℕ) (n a : ℕ) → n ≤ length w → a ≤ n → take (n - a) (drop a w) ≡ drop a (take n w)
+front-part w n a l k =
+    let x : List ℕ = take n w in
+    let xl : length x ≡ n = omega (arith, length-take n w) in
+    let e : drop a w ≡ drop a x ++ drop n w = ap (drop a) (sym (take-append-drop n w)) ∙ drop-append-le a x (drop n w) (omega arith) in
+    ap (take (n - a)) e ∙ take_at (drop a x) (drop n w) (n - a) (omega (arith, length-drop a x))
 
 module _ {w : List ℕ} {k root h : ℕ} (R : Rooted w k root h) (size : length w ≡ TABLE_WORDS) {s₀ n₀ s₁ n₁ : List Bool} {v : Option Rect}
     (sz : (q : ℕ) → mark_of s₀ q ≡ 0) (nz : (c : ℕ) → mark_of n₀ c ≡ 0) {m : ℕ} (me : m ≡ root_fewest h) (y : Visited w h m root s₀ n₀ v s₁ n₁) where
@@ -60,9 +68,7 @@ module _ {w : List ℕ} {k root h : ℕ} (R : Rooted w k root h) (size : length 
     pub rest_decides : Complete w' k' s₁ n₁ → {b : Bool}
         → b ≡ zeros (take (TABLE_WORDS - (TABLE_HEAD + PAGE_WORDS * k)) (drop (TABLE_HEAD + PAGE_WORDS * k) w)) → b ≡ sound w
     unfolding total_of
-    rest_decides t {b} e =
-        let a : ℕ = TABLE_HEAD + PAGE_WORDS * k in
-        go b (e ∙ ap zeros (take_all (TABLE_WORDS - a) (drop a w) (omega (arith, size, length-drop a w)) ∙ ap (drop a) (sym (take_all TABLE_WORDS w (omega (arith, size))))))
+    rest_decides t {b} e = go b (e ∙ ap zeros (front-part w TABLE_WORDS (TABLE_HEAD + PAGE_WORDS * k) long (omega (arith, R.most))))
       where
         go : (b : Bool) → b ≡ zeros (drop (TABLE_HEAD + PAGE_WORDS * k) (take TABLE_WORDS w)) → b ≡ sound w
         go true z = sym (T_true (sound w) (tree-sound w k root h R long (x.yes good).0 (once (subst (λ a. total_of s₁ a ≡ a) k-same t.0)) stores-few
