@@ -7,7 +7,7 @@ ghost use Rattle.std.specs.Prelude.{◌≡◌, get_or, set};
 use pages::Rect;
 use query::Answer;
 use std::fmt::Display;
-use std::io;
+use std::{array, io};
 
 // How many numbers of a listing are printed; the checksum has them all.
 const SHOWN: u32 = 24;
@@ -55,9 +55,10 @@ where
     number(rt, sum)
 }
 
-// The words before the pages.
+// The words before the pages, zero past the end.
 pub fn head(rt: &impl Print, table: &[u32]) -> io::Result<()> {
-    numbers(rt, table.get(..pages::TABLE_HEAD).unwrap_or(table))
+    let words: [u32; pages::TABLE_HEAD] = array::from_fn(|i| word(table, i));
+    numbers(rt, &words)
 }
 
 // The words before the pages, and the sum of all.
