@@ -23,7 +23,7 @@ use Rattle.outline.specs.Calls.{area_call, area_from, point_call, located_from}
 use Rattle.outline.specs.Claims.{area_of, located_of}
 use Rattle.outline.specs.Steps.{point_of, outline_of}
 
-area-refused : (ws : List ℕ) (r : ℕ) → r ≡ outline_refusal ws ws → (r ≡ 0 → ⊥) → area_of r (pos 0) ≡ area_call ws
+pub area-refused : (ws : List ℕ) (r : ℕ) → r ≡ outline_refusal ws ws → (r ≡ 0 → ⊥) → area_of r (pos 0) ≡ area_call ws
 unfolding area_call
 area-refused ws r e n = rw (← e, ne_eqb r ACCEPTED n)
 
@@ -49,11 +49,11 @@ chosen-beyond false true false r e f = refl
 chosen-beyond false false b r e f = refl
 
 module _ (ws : List ℕ) (x y : ℕ) where
-  refusal-more : (outline_refusal ws ws ≡ 0 → ⊥) → outline_refusal ws (x ∷ (y ∷ ws)) ≡ outline_refusal ws ws
+  pub refusal-more : (outline_refusal ws ws ≡ 0 → ⊥) → outline_refusal ws (x ∷ (y ∷ ws)) ≡ outline_refusal ws ws
   unfolding outline_refusal within
   refusal-more n = chosen_more (wrong_count (length ws)) (leb x FARTHEST) (leb y FARTHEST) (within ws) n
 
-  refusal-beyond : outline_refusal ws ws ≡ 0 → (leb x FARTHEST && leb y FARTHEST) ≡ false → outline_refusal ws (x ∷ (y ∷ ws)) ≡ COORDINATE_TOO_LARGE
+  pub refusal-beyond : outline_refusal ws ws ≡ 0 → (leb x FARTHEST && leb y FARTHEST) ≡ false → outline_refusal ws (x ∷ (y ∷ ws)) ≡ COORDINATE_TOO_LARGE
   unfolding outline_refusal within
   refusal-beyond e f = chosen-beyond (wrong_count (length ws)) (leb x FARTHEST) (leb y FARTHEST) (within ws) e f
 
@@ -61,7 +61,7 @@ module _ (ws : List ℕ) (x y : ℕ) where
   unfolding outline_refusal within
   refusal-none e a b = rw (le-leb x FARTHEST a, le-leb y FARTHEST b) e
 
-  point-refused : (r : ℕ) → r ≡ outline_refusal ws (x ∷ (y ∷ ws)) → (r ≡ 0 → ⊥) → located_of r 0 ≡ point_call ws x y
+  pub point-refused : (r : ℕ) → r ≡ outline_refusal ws (x ∷ (y ∷ ws)) → (r ≡ 0 → ⊥) → located_of r 0 ≡ point_call ws x y
   unfolding point_call
   point-refused r e n = rw (← e, ne_eqb r ACCEPTED n)
 

@@ -25,16 +25,16 @@ words-points (x ∷ []) e = absurd (omega (arith, e))
 words-points (x ∷ (y ∷ ws)) e = ap (λ (vs : List ℕ). x ∷ (y ∷ vs)) (words-points ws (omega arith))
 
 -- the sums of a * d and of b * c
-unfoldable plus_of : List Edge → ℕ
+unfoldable pub plus_of : List Edge → ℕ
 plus_of [] = 0
 plus_of (e ∷ es) = e.a * e.d + plus_of es
 
-unfoldable minus_of : List Edge → ℕ
+unfoldable pub minus_of : List Edge → ℕ
 minus_of [] = 0
 minus_of (e ∷ es) = e.b * e.c + minus_of es
 
 -- the sum of the differences is the difference of the sums
-area-is : (es : List Edge) → pos (plus_of es) -ℤ pos (minus_of es) ≡ area_twice es
+pub area-is : (es : List Edge) → pos (plus_of es) -ℤ pos (minus_of es) ≡ area_twice es
 unfolding plus_of minus_of area_twice
 area-is [] = refl
 area-is (e ∷ es) = sym (minus-add (e.a * e.d) (e.b * e.c) (plus_of es) (minus_of es)) ∙ ap (λ (z : ℤ). cross e +ℤ z) (area-is es)

@@ -97,7 +97,7 @@ module _ (e : Edge) (p : Point) where
           go true t = absurd (false≢true (sym off ∙ on_line line t))
 
     -- off the line the edge counts by the side that the point is on
-    off-line : (left e p ≡ right e p → ⊥) → (t : Bool) → counts e p ≡ t → Some t ≡ met_by e p
+    pub off-line : (left e p ≡ right e p → ⊥) → (t : Bool) → counts e p ≡ t → Some t ≡ met_by e p
     off-line apart t c = let off : is_on_edge e p ≡ false = on-is ∙ rw (ne_eqb _ _ apart, and-false) in rw (off, c)
 
     ends : (min e.b e.d ≤ p.y) × (p.y ≤ max e.b e.d)

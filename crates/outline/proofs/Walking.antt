@@ -91,6 +91,10 @@ total-walked S f (p ∷ ps) =
     ∙ total-turn S f (closing ∷ []) (edges_to p ps)
     ∙ ap (total S f) (sym (path-last p ps p))
 
+pub place-on : (es : List Edge) (p : Point) → on_any es p ≡ true → Place.On ≡ place_of es p
+unfolding place_of
+place-on es p t = rw t
+
 module _ (ps : List Point) where
   pub area-walked : area_twice (closing_first ps) ≡ area_twice (edges ps)
   area-walked = area-total (closing_first ps) ∙ total-walked integers cross ps ∙ sym (area-total (edges ps))
@@ -102,9 +106,8 @@ module _ (ps : List Point) where
     crossings-walked : crossings (closing_first ps) p ≡ crossings (edges ps) p
     crossings-walked = crossings-total p (closing_first ps) ∙ total-walked numbers (counted p) ps ∙ sym (crossings-total p (edges ps))
 
-    pub place-on : on_any (closing_first ps) p ≡ true → Place.On ≡ place_of (edges ps) p
-    unfolding place_of
-    place-on t = rw (sym on-walked ∙ t)
+    pub place-walked : on_any (closing_first ps) p ≡ true → Place.On ≡ place_of (edges ps) p
+    place-walked t = place-on (edges ps) p (sym on-walked ∙ t)
 
     -- at the end of the walk nothing is left
     pub place-end : (inside : Bool) (es : List Edge) → es ≡ [] → on_any es p ≡ on_any (closing_first ps) p

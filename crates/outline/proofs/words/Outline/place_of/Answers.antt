@@ -2,13 +2,13 @@
 use mathlib.Core.Path.{sym, ap, ◌∙◌}
 use mathlib.Core.Bool.{Bool, cond}
 use Rattle.outline.specs.declared.Place.{Place}
-use Rattle.outline.proofs.Walking.{on-stop, on-more, parity-more, place-on, place-end}
+use Rattle.outline.proofs.Walking.{on-stop, on-more, parity-more, place-walked, place-end}
 use Rattle.outline.proofs.words.Outline.place_of.Goals as goal
 
 pub returns-in-None-met_by : goal.returns-in-None-met_by
 returns-in-None-met_by c =
     let p = c.args.p.now in
-    place-on _ p (sym c.loop-edge.invariant.on ∙ on-stop p _ _ _ c.in-Some.ensures.steps c.in-None-met_by.ensures)
+    place-walked _ p (sym c.loop-edge.invariant.on ∙ on-stop p _ _ _ c.in-Some.ensures.steps c.in-None-met_by.ensures)
 
 pub loop-edge-preserved : goal.loop-edge-preserved
 loop-edge-preserved c =

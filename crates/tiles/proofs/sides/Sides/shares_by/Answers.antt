@@ -9,7 +9,7 @@ use Rattle.tiles.specs.declared.TileShare.{TileShare}
 use Rattle.tiles.specs.Tiles.{TILES}
 use Rattle.tiles.specs.Steps.{MOST_AREA, product, share_of}
 use Rattle.pages.proofs.Arrays.{made}
-use Rattle.tiles.proofs.Called.{cut-shares}
+use Rattle.tiles.proofs.Called.{cut-tiles}
 use Rattle.tiles.proofs.sides.Sides.shares_by.Goals as goal
 
 pub from_fn-requires : goal.from_fn-requires
@@ -36,5 +36,5 @@ unfolding product
 returns c =
     let long = c.from_fn.ensures.items.long in
     let share : ℕ → TileShare = λ i. share_of (product c.cut-heights.result c.cut-widths.result i) c.area-whole.result in
-    cut-shares _ _ _ _ _ _ c.cut-heights.ensures.cut c.cut-widths.ensures.cut c.area-whole.ensures.area long
+    cut-tiles _ _ _ _ _ _ c.cut-heights.ensures.cut c.cut-widths.ensures.cut c.area-whole.ensures.area long
     (λ t l. made _ share _ (λ i r q k. search (rules, tests)) c.from_fn.result (share_of 0 0) TILES t l c.from_fn.ensures.items)
