@@ -22,7 +22,7 @@ over-halves x y h =
     let low : paired_of x y % HALF ≡ x = omega arith in
     ap₂ ◌||◌ (same-order _ (paired_of x y) TOP y (λ k. omega arith) (λ k. omega arith)) (ap (leb TOP) low)
 
--- the words leave the highest bit of each half alone, or have it
+-- `from` is what a start may grow by, `to` what an end is taken from
 module _ (p : Rect) (s : Small p) (from to : ℕ) (xs : from % HALF ≤ MOST) (ys : from / HALF ≤ MOST) (xe : MOST ≤ to % HALF) (ye : MOST ≤ to / HALF) where
   starts : over (paired_of p.x1 p.y1 + from) ≡ (ltb (MOST - from / HALF) p.y1 || ltb (MOST - from % HALF) p.x1)
   starts =
