@@ -3,7 +3,7 @@ use Prim.Native.Nat.{ℕ, ◌+◌, ◌-◌, ◌<◌, ◌≤◌}
 use native.Mathlib.Omega.{arith}
 use mathlib.Core.Path.{◌≡◌, refl, sym, ap, ◌∙◌}
 use mathlib.Core.Logic.{◌⊎◌, inl, inr, ⊎_elim}
-use mathlib.Core.Bool.{Bool, true, false, ◌||◌, cond}
+use mathlib.Core.Bool.{Bool, true, false, ◌||◌}
 use mathlib.Core.List.{List}
 use lib.Dec.{T, ltb}
 use borrow.Author.Tests.{ltb-true, ltb-false}
@@ -19,7 +19,7 @@ use Rattle.pages.specs.Sizes.{EDGE}
 use Rattle.pages.specs.Rectangles.{rect_of, valid, Small}
 use Rattle.query.specs.Admission.{code_y, code_x}
 use Rattle.query.specs.Steps.{admits_by, opens_by}
-use Rattle.query.specs.Window.{window_for, beyond, decided, Decides}
+use Rattle.query.specs.Window.{window_for, beyond, Decides}
 use Rattle.query.proofs.Tests.{Proper, proper}
 
 either : (a b : Bool) → (a || b) ≡ true → (a ≡ true) ⊎ (b ≡ true)
@@ -132,16 +132,6 @@ module _ (rows : List ℕ) (q : Rect) (v : T (valid q)) where
   abbrev whole : Bool
   whole = overlap_by rows (joined_of rows)
 
-  decides : (test : Rect → Bool) → ((p : Rect) → Small p → beyond window p ≡ true → test p ≡ false)
-      → (whole ≡ true → (p : Rect) → beyond window p ≡ false → test p ≡ true) → Decides window whole test
-  unfolding decided
-  decides test fails passes p s = go (beyond window p) refl whole refl
-    where
-      go : (b : Bool) → beyond window p ≡ b → (h : Bool) → whole ≡ h → cond b false (cond h true (test p)) ≡ test p
-      go true e h z = sym (fails p s e)
-      go false e true z = sym (passes z p e)
-      go false e false z = refl
-
   -- the window that a search makes
   module _ (below : List ℕ) (reach : Reach) (all : Bool) (w : Rect) (j : below ≡ joined_of rows) (r : reach ≡ reach_by below) (o : all ≡ overlap_by rows below)
       (e : w ≡ window_for q reach) where
@@ -152,7 +142,7 @@ module _ (rows : List ℕ) (q : Rect) (v : T (valid q)) where
     whole-is = o ∙ ap (overlap_by rows) j
 
     pub pages-decided : Decides w all (opens_by below q)
-    pages-decided = rw (window-is, whole-is, j) (decides (opens_by (joined_of rows) q) shut_out taken-page)
+    pages-decided = rw (window-is, whole-is, j) (record { fails = shut_out; passes = taken-page })
 
     pub leaves-decided : Decides w all (admits_by rows q)
-    leaves-decided = rw (window-is, whole-is) (decides (admits_by rows q) leaf-shut taken-leaf)
+    leaves-decided = rw (window-is, whole-is) (record { fails = leaf-shut; passes = taken-leaf })

@@ -16,7 +16,7 @@ use Rattle.query.proofs.Reading.{page-facts, piece-number, child-page}
 pub page-small : (w : List ℕ) (p l : ℕ) → SoundPage w p l → Every (λ e. Small e.rect) (page (table_in w) p).entries
 page-small w p l s = entries-small (table_in w) (page-facts w p l s) l p s.inside s.level
 
-entry-small : (w : List ℕ) (p l : ℕ) → SoundPage w p l → (i : ℕ) → i < length (page (table_in w) p).entries → Small (get_or (page (table_in w) p).entries i no_entry).rect
+pub entry-small : (w : List ℕ) (p l : ℕ) → SoundPage w p l → (i : ℕ) → i < length (page (table_in w) p).entries → Small (get_or (page (table_in w) p).entries i no_entry).rect
 entry-small w p l s i il = every-at (λ e. Small e.rect) (page (table_in w) p).entries no_entry (page-small w p l s) i il
 
 -- what a walk knows of each entry of a leaf, and of a page above

@@ -6,8 +6,8 @@ use mathlib.Core.Bool.{Bool, true, false, ◌||◌}
 use lib.Dec.{leb, ltb}
 use borrow.Author.Tests.{leb-true, leb-false, le-leb, lt-leb}
 use Rattle.pages.specs.declared.Rect.{Rect}
-use Rattle.pages.specs.Rectangles.{Small}
-use Rattle.query.specs.Window.{HALF, paired_of, TOP, over, MOST, window_in, Roomy, beyond}
+use Rattle.pages.specs.Rectangles.{rect_of, Small}
+use Rattle.query.specs.Window.{HALF, paired_of, TOP, over, MOST, window_in, beyond}
 
 same-order : (a b c d : ℕ) → (a ≤ b → c ≤ d) → (b < a → d < c) → leb a b ≡ leb c d
 same-order a b c d f g = go (leb a b) refl
@@ -22,26 +22,39 @@ over-halves x y h =
     let low : paired_of x y % HALF ≡ x = omega arith in
     ap₂ ◌||◌ (same-order _ (paired_of x y) TOP y (λ k. omega arith) (λ k. omega arith)) (ap (leb TOP) low)
 
-module _ (p : Rect) (s : Small p) (from to : ℕ) (r : Roomy from to) where
+-- `from` is what a start may grow by, `to` what an end is taken from
+module _ (p : Rect) (s : Small p) (from to : ℕ) (xs : from % HALF ≤ MOST) (ys : from / HALF ≤ MOST) (xe : MOST ≤ to % HALF) (ye : MOST ≤ to / HALF) where
   starts : over (paired_of p.x1 p.y1 + from) ≡ (ltb (MOST - from / HALF) p.y1 || ltb (MOST - from % HALF) p.x1)
   starts =
       let e : paired_of p.x1 p.y1 + from ≡ paired_of (p.x1 + from % HALF) (p.y1 + from / HALF) = omega arith in
       ap over e
-      ∙ over-halves (p.x1 + from % HALF) (p.y1 + from / HALF) (omega (arith, s.x-start, r.x-start))
-      ∙ ap₂ ◌||◌ (same-order TOP (p.y1 + from / HALF) _ p.y1 (λ k. omega (arith, r.y-start)) (λ k. omega (arith, r.y-start)))
-      (same-order TOP (p.x1 + from % HALF) _ p.x1 (λ k. omega (arith, r.x-start)) (λ k. omega (arith, r.x-start)))
+      ∙ over-halves (p.x1 + from % HALF) (p.y1 + from / HALF) (omega (arith, s.x-start))
+      ∙ ap₂ ◌||◌ (same-order TOP (p.y1 + from / HALF) _ p.y1 (λ k. omega arith) (λ k. omega arith))
+      (same-order TOP (p.x1 + from % HALF) _ p.x1 (λ k. omega arith) (λ k. omega arith))
 
   ends : over (to - paired_of p.x2 p.y2) ≡ (ltb p.y2 (to / HALF - MOST) || ltb p.x2 (to % HALF - MOST))
   ends =
-      let e : to - paired_of p.x2 p.y2 ≡ paired_of (to % HALF - p.x2) (to / HALF - p.y2) = omega (arith, s.x-end, s.y-end, r.x-end, r.y-end) in
+      let e : to - paired_of p.x2 p.y2 ≡ paired_of (to % HALF - p.x2) (to / HALF - p.y2) = omega (arith, s.x-end, s.y-end) in
       ap over e
-      ∙ over-halves (to % HALF - p.x2) (to / HALF - p.y2) (omega (arith, r.x-most))
-      ∙ ap₂ ◌||◌ (same-order TOP (to / HALF - p.y2) _ (to / HALF - MOST) (λ k. omega (arith, r.y-end)) (λ k. omega (arith, r.y-end)))
-      (same-order TOP (to % HALF - p.x2) _ (to % HALF - MOST) (λ k. omega (arith, r.x-end)) (λ k. omega (arith, r.x-end)))
+      ∙ over-halves (to % HALF - p.x2) (to / HALF - p.y2) (omega arith)
+      ∙ ap₂ ◌||◌ (same-order TOP (to / HALF - p.y2) _ (to / HALF - MOST) (λ k. omega arith) (λ k. omega arith))
+      (same-order TOP (to % HALF - p.x2) _ (to % HALF - MOST) (λ k. omega arith) (λ k. omega arith))
 
   pub beyond-paired : (over (paired_of p.x1 p.y1 + from) || over (to - paired_of p.x2 p.y2)) ≡ beyond (window_in from to) p
   unfolding beyond window_in
   beyond-paired = ap₂ ◌||◌ starts ends
+
+-- the same, of words that are paired
+pub halves-beyond : (p : Rect) → Small p → (a b c d : ℕ) → a ≤ MOST → b ≤ MOST → MOST ≤ c → MOST ≤ d → c < HALF
+    → (over (paired_of p.x1 p.y1 + paired_of a b) || over (paired_of c d - paired_of p.x2 p.y2)) ≡ beyond (rect_of (c - MOST) (d - MOST) (MOST - a) (MOST - b)) p
+unfolding window_in
+halves-beyond p s a b c d la lb lc ld hc =
+    let xa : paired_of a b % HALF ≡ a = omega arith in
+    let yb : paired_of a b / HALF ≡ b = omega arith in
+    let xc : paired_of c d % HALF ≡ c = omega arith in
+    let yd : paired_of c d / HALF ≡ d = omega arith in
+    beyond-paired p s (paired_of a b) (paired_of c d) (omega arith) (omega arith) (omega arith) (omega arith)
+    ∙ λ i. beyond (rect_of (xc i - MOST) (yd i - MOST) (MOST - xa i) (MOST - yb i)) p
 
 -- a small window by its words
 pub window-kept : (w : Rect) → Small w → window_in (paired_of (MOST - w.x2) (MOST - w.y2)) (paired_of (MOST + w.x1) (MOST + w.y1)) ≡ w

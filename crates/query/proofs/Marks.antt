@@ -24,7 +24,7 @@ use Rattle.query.specs.Marks.{MARK_BITS, MARK_WORDS, is_marked, with_mark, marke
 use Rattle.query.proofs.Concat.{sets-append}
 
 -- a power of two has one bit
-bit-pow : (j i : ℕ) → bit (2 ^ j) i ≡ eqb i j
+pub bit-pow : (j i : ℕ) → bit (2 ^ j) i ≡ eqb i j
 bit-pow zero zero = odd 1 refl
 bit-pow zero (suc i) = bit-half 1 i ∙ (bit-none i ∙ sym (eqb-suc-zero i))
 bit-pow (suc j) zero = even (2 ^ suc j) (omega (arith, pow-suc 2 j)) ∙ sym (eqb-zero-suc j)
@@ -58,7 +58,7 @@ mark-summed m n r l s =
     other w z (no e) =
         get_or-set_other m (r / 64) w _ 0 e ∙ s.unnamed w (sym (or-false (bit n w)) ∙ (rw (bit-or, bit-pow, ne_eqb w (r / 64) e) at z))
 
-mark-at : (m : List ℕ) (r c : ℕ) → length m ≡ MARK_WORDS → c < PIECES → is_marked (with_mark m r) c ≡ (is_marked m c || eqb r c)
+pub mark-at : (m : List ℕ) (r c : ℕ) → length m ≡ MARK_WORDS → c < PIECES → is_marked (with_mark m r) c ≡ (is_marked m c || eqb r c)
 unfolding is_marked with_mark
 mark-at m r c k l = go (ℕ_discrete (c / 64) (r / 64))
   where
@@ -83,7 +83,7 @@ some_more : (b : Bool) (n : ℕ) → ltb 0 (one b + n) ≡ (b || ltb 0 n)
 some_more true n = lt-ltb 0 (1 + n) (omega arith)
 some_more false n = let e : 0 + n ≡ n = omega arith in rw e
 
-marked-is : (m xs : List ℕ) (c : ℕ) → length m ≡ MARK_WORDS → c < PIECES → is_marked (marked m xs) c ≡ (is_marked m c || ltb 0 (times c xs))
+pub marked-is : (m xs : List ℕ) (c : ℕ) → length m ≡ MARK_WORDS → c < PIECES → is_marked (marked m xs) c ≡ (is_marked m c || ltb 0 (times c xs))
 unfolding marked
 marked-is m [] c k l = sym (or-false (is_marked m c))
 marked-is m (x ∷ xs) c k l =

@@ -53,6 +53,7 @@ beyond q p = (ltb q.y2 p.y1 || ltb q.x2 p.x1) || (ltb p.y2 q.y1 || ltb p.x2 q.x1
 unfoldable pub decided : Rect → Bool → (Rect → Bool) → Rect → Bool
 decided window whole test p = cond (beyond window p) false (cond whole true (test p))
 
--- the window and `whole` decide as the test does
-abbrev pub Decides : Rect → Bool → (Rect → Bool) → Type 0
-Decides window whole test = (p : Rect) → Small p → decided window whole test p ≡ test p
+-- what lies beyond the window fails the test, and where `whole` holds all else passes it
+pub record Decides (window : Rect) (whole : Bool) (test : Rect → Bool) : Type 0 where
+  pub fails : (p : Rect) → Small p → beyond window p ≡ true → test p ≡ false
+  pub passes : whole ≡ true → (p : Rect) → beyond window p ≡ false → test p ≡ true
