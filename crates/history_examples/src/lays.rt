@@ -1,5 +1,6 @@
 // Lists of place calls by formulas, as words: number, x1, y1, x2, y2.
-ghost use Rattle.std.specs.Prelude.{◌≤◌};
+ghost use Rattle.std.specs.Prelude.{◌≤◌, ◌<◌};
+ghost use Rattle.pages.specs.Sizes.{PIECES};
 
 use crate::draws::Generator;
 use history::CALL_WORDS;
@@ -109,7 +110,9 @@ fn refused(draws: &mut Generator) -> Piece {
 }
 
 // The piece at position i when the last of 1,024 goes first.
-fn from_last(i: u16) -> u16 {
+fn from_last(i: u16) -> u16
+    ensures { result < PIECES }
+{
     LAST.saturating_sub(i)
 }
 

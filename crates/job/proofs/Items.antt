@@ -1,5 +1,5 @@
 -- One piece and one query of a well-formed job: their words lie within it, and what the calls give is what the definitions say.
-use Prim.Native.Nat.{ℕ, ◌+◌, ◌*◌, ◌≤◌, ◌<◌}
+use Prim.Native.Nat.{ℕ, zero, suc, ◌+◌, ◌*◌, ◌≤◌, ◌<◌}
 use mathlib.Core.Path.{◌≡◌, refl, sym, ap, ◌∙◌, subst}
 use mathlib.Core.Bool.{true}
 use mathlib.Core.List.{List}
@@ -19,7 +19,7 @@ use Rattle.job.specs.Job.{Query}
 use Rattle.job.specs.Output.{piece_line, query_line, room, answer_of}
 use Rattle.job.specs.Words.{word_at, rect_at, clauses_at, piece_count, piece_start, piece_at, query_count, query_start, query_at, well_formed}
 use Rattle.job.specs.Steps.{table_at, full_table, piece_line_at, query_line_at, answer_after}
-use Rattle.job.proofs.Places.{first-start, starts-after}
+use Rattle.job.proofs.Places.{first-start, next_start, starts-after}
 use Rattle.job.proofs.Tables.{place_is, query-is, fine-table}
 use Rattle.job.proofs.Asking.{same_line}
 
@@ -33,6 +33,14 @@ module _ (b : List ℕ) (good : well_formed b ≡ true) where
 
   pub exact : length b ≡ WORD_BYTES * query_start b (query_count b)
   exact = eqb→eq _ _ parts.1
+
+  -- each query has words of its own, so there are few
+  pub query-place : (i : ℕ) → i < query_count b → i < JOB_BYTES
+  query-place i h = omega (arith, short, exact, starts-late (query_count b))
+    where
+      starts-late : (n : ℕ) → n ≤ query_start b n
+      starts-late zero = omega arith
+      starts-late (suc n) = omega (arith, next_start b n, starts-late n)
 
   pub piece_within : (i words : ℕ) → i < piece_count b → length b ≡ WORD_BYTES * words → piece_start i + CALL_WORDS ≤ words
   piece_within i words h e = omega (arith, exact, first-start b, starts-after b (query_count b))

@@ -18,7 +18,7 @@ pub record Claims : Type 0 where
   pub read : (b : List ℕ) → Bytes b → T (well_formed b) → job_bytes (job_in b) ≡ b
   -- the bytes of every job of 32-bit words that is not too long are well formed, and it is the one that is read from them
   pub written : (j : Job) → Words (job_words j) → length (job_bytes j) ≤ JOB_BYTES → T (well_formed (job_bytes j)) × (job_in (job_bytes j) ≡ j)
-  -- the lines that `place_piece` and `answer_query` give, in order, are the output of a well-formed job
+  -- the lines that `Job::place_piece` and `Query::answer` give, in order, are the output of a well-formed job
   pub in_order : (b : List ℕ) → T (well_formed b) → output b ≡ lines_to (piece_line_at b) (piece_count b) ++ lines_to (query_line_at b) (query_count b)
   -- what `bad_job` writes is the output of any other bytes
   pub bad : (b : List ℕ) → well_formed b ≡ false → output b ≡ bad_job

@@ -83,6 +83,13 @@ impl<'a> Job<'a> {
         })
     }
 
+    /// The word at which the queries begin.
+    pub fn first_query(&self) -> usize
+        ensures { result ≡ query_start self.now.bytes.now 0 }
+    {
+        1 + CALL_WORDS * self.pieces as usize + 1
+    }
+
     fn piece_at(&self, position: u32) -> Piece
         requires { position < self.now.pieces }
         ensures number { result.number ≡ (piece_at self.now.bytes.now position).number }
