@@ -9,6 +9,7 @@ pub mod Sorting
 pub mod Stepping
 pub mod Searching
 pub mod PageWords
+pub mod Writing
 pub mod TableWords
 pub mod Adding
 pub mod Descent

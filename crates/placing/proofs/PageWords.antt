@@ -37,7 +37,7 @@ module _ (g : Page) where
 -- writing
 
 -- five words are written over those of place i
-entry-over : (w : List ℕ) (i : ℕ) (e : Entry) → length w ≡ PAGE_WORDS → i < FANOUT → entry_set w i e ≡ over w (PAGE_HEAD + ENTRY_WORDS * i) (encode_entry e)
+pub entry-over : (w : List ℕ) (i : ℕ) (e : Entry) → length w ≡ PAGE_WORDS → i < FANOUT → entry_set w i e ≡ over w (PAGE_HEAD + ENTRY_WORDS * i) (encode_entry e)
 unfolding entry_set encode_entry
 entry-over w i e l h =
     five (PAGE_HEAD + ENTRY_WORDS * i) ∙ (sets-eq (encode_entry e) w (PAGE_HEAD + ENTRY_WORDS * i) (omega arith) ∙ append_assoc (take (PAGE_HEAD + ENTRY_WORDS * i) w) (encode_entry e) _)

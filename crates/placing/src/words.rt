@@ -17,7 +17,7 @@ pub struct Slot {
 }
 
 // The entry count of a page's words, at most 8.
-fn entry_count(page: &[u32; PAGE_WORDS]) -> usize
+pub fn entry_count(page: &[u32; PAGE_WORDS]) -> usize
     ensures { result ≡ count_in page.now }
 {
     (page[COUNT] as usize).min(FANOUT)

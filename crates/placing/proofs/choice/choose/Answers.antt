@@ -1,13 +1,24 @@
--- The least cost of a page's entries with their places.
-use Rattle.std.proofs.Common.{rules, tests, ap, ◌∙◌}
-use Rattle.std.proofs.lemmas.Iterator.Consumers.{YieldsList-from_first, YieldsList-from_enumerate}
-use Rattle.pages.specs.Left.{left}
-use Rattle.placing.proofs.Choosing.{chosen-least}
+-- The first entry's cost, and the lesser of that and each other's.
+use Rattle.std.proofs.Common.{rules, ◌≡◌, ◌-◌, ◌<◌, refl, ap, ◌∙◌}
+use Rattle.std.specs.List.{fold, range_with_len}
+use Rattle.std.proofs.lemmas.Iterator.{YieldsList-from_range}
+use Rattle.std.proofs.lemmas.Iterator.Consumers.{fold_from_yields_List}
+use Rattle.pages.specs.Sizes.{FANOUT}
+use Rattle.pages.specs.Readers.{entry_in}
+use Rattle.placing.specs.Steps.{count_in, chosen_in}
+use Rattle.placing.proofs.Choosing.{with_place, least-chosen}
 use Rattle.placing.proofs.choice.choose.Goals as goal
-use Rattle.placing.proofs.choice.choose.Goals.{in-Some, in-None}
+use Rattle.placing.proofs.choice.choose.Goals.{After-fold-least}
+
+least : (c : After-fold-least) → (c.fold-least.result.place < FANOUT) × (c.fold-least.result.place ≡ chosen_in c.args.page.now c.args.new)
+least c =
+    let w = c.args.page.now in
+    least-chosen c.args.new w _
+    (fold_from_yields_List _ (with_place c.args.new (entry_in w)) _ _ c.fold-least.ensures.ran (YieldsList-from_range 1 _ (count_in w - 1) refl (ap (λ n. n - 1) c.entry_count.ensures))
+    (λ a x b q k. search rules) ∙ ap (λ b. fold (with_place c.args.new (entry_in w)) b (range_with_len 1 (count_in w - 1))) c.cost_at-first.ensures)
 
 pub returns : goal.returns
-returns c =
-    let least = chosen-least _ c.args.new _ _ c.min_by_key.result c.filled.ensures.items c.min_by_key.ensures.ran
-    (YieldsList-from_enumerate (YieldsList-from_first (λ x. x) left _ (ap left c.enumerate-entries.ensures.source)) c.enumerate-entries.ensures.count) (λ x k q h. search (rules, tests)) in
-    elim c.match-min_by_key.branch [ in-Some w ↦ ap (λ r. r.0) w.result-is ∙ least _ w.in-Some.is | in-None w ↦ ap (λ r. r.0) w.result-is ∙ least _ w.in-None.is ]
+returns c = (least c.before).1
+
+pub invariant_of-result : goal.invariant_of-result
+invariant_of-result c = record { inside = (least c).0 }
